@@ -1,1 +1,8 @@
 pub mod Limits
+pub mod Refusals
+pub mod Ties
+pub mod Meaning
+pub mod Calls
+pub mod Bits
+pub mod MarkBits
+pub mod MarkBoards

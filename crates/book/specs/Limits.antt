@@ -26,3 +26,12 @@ within c = leb 1 (c .names) && leb (c .names) 64 && leb (c .labels) 16 && leb (c
 -- what a check of counts answers
 abbrev pub checked : Counts → Result (Unit {0}) CountRefusal
 checked c = cond (within c) (Ok tt) (Err OutsideLimits)
+
+-- one name, no label and no mark
+abbrev pub least : Counts
+least = record { names = 1; labels = 0; marks = 0 }
+
+-- the counts that a book is made with: those that were asked for, or the least where these are
+-- outside their limits
+abbrev pub made-counts : Counts → Counts
+made-counts c = cond (within c) c least

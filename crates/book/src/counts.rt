@@ -1,6 +1,6 @@
 // How many names, labels and marks a book and a roll have, and the limits of these counts.
 ghost use mathlib.Core.Path.{_≡_};
-ghost use Rattle.book.specs.Limits.{«count-number», checked};
+ghost use Rattle.book.specs.Limits.{«count-number», checked, «made-counts»};
 
 // The three counts. Names, labels and marks are each numbered from 0, so that a number stands for
 // something exactly when it is below its count.
@@ -31,7 +31,9 @@ impl CountRefusal {
 
 impl Counts {
     pub const MOST_NAMES: u8 = 64;
+
     pub const MOST_LABELS: u8 = 16;
+
     pub const MOST_MARKS: u8 = 16;
 
     // Whether each count is within its limits: 1 to 64 names, 0 to 16 labels, 0 to 16 marks.
@@ -43,6 +45,20 @@ impl Counts {
             Ok(())
         } else {
             Err(CountRefusal::OutsideLimits)
+        }
+    }
+
+    // These counts, or one name, no label and no mark where they are outside their limits.
+    pub fn or_least(self) -> Counts
+        ensures { λ r. ⌜ r ≡ made-counts self ⌝ }
+    {
+        match self.check() {
+            Ok(()) => self,
+            Err(_) => Counts {
+                names: 1,
+                labels: 0,
+                marks: 0,
+            },
         }
     }
 }

@@ -19,9 +19,11 @@ returns-then-used-row g c =
 
 pub returns : need.returns
 returns g c =
-    let e = held-part (c .args .row .now) (c .args .used) _ (c .min-held .ensures) in
-    (subst (λ ys. Finds (g .T·Sameness .same) ys (c .args .thing) None) e (c .in-rest .ensures tt), record {
-      room = c .if-used-row .left;
-      front = take-more-set (c .args .row .now) (c .args .used) (c .args .thing) (c .if-used-row .left);
-      rest = drop-set-lt _ (c .args .row .now) (c .args .used) (c .args .thing) (omega arith);
-    })
+    let e = held-part (c .args .row .now) (c .args .used) _ (c .min-held .ensures) in (
+      subst (λ ys. Finds (g .T·Sameness .same) ys (c .args .thing) None) e (c .in-rest .ensures tt),
+      record {
+        room = c .if-used-row .left;
+        front = take-more-set (c .args .row .now) (c .args .used) (c .args .thing) (c .if-used-row .left);
+        rest = drop-set-lt _ (c .args .row .now) (c .args .used) (c .args .thing) (omega arith);
+      },
+    )
