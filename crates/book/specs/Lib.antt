@@ -6,3 +6,4 @@ pub mod Calls
 pub mod Bits
 pub mod MarkBits
 pub mod MarkBoards
+pub mod Runs

@@ -5,6 +5,7 @@ pub mod counts;
 pub mod faces;
 pub mod mark_board;
 pub mod marking;
+pub mod play;
 pub mod range;
 pub mod refusal;
 pub mod tie;
