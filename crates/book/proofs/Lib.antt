@@ -1,5 +1,2 @@
 pub mod Counting
 pub mod Moves
-pub mod BitLaws
-pub mod MarkMoves
-pub mod Running

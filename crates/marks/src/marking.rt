@@ -1,16 +1,16 @@
 // The mark facts of a book.
 ghost use mathlib.Core.Path.{_≡_};
 ghost use mathlib.Core.Bool.{cond, false};
 ghost use Rattle.book.specs.Calls.{«mark-within», ranged};
 ghost use Rattle.book.specs.Meaning.{at2, count2};
 ghost use Rattle.book.specs.Limits.{«made-counts»};
-ghost use Rattle.book.specs.MarkBoards.{«board-counts», «board-marks»};
+ghost use Rattle.marks.specs.MarkBoards.{«board-counts», «board-marks»};
 ghost use Rattle.std.specs.declared.result.Result.the-variants.{Ok, Err};
 use crate::bits::flip;
 use crate::bits::is_lit;
-use crate::counts::Counts;
 use crate::mark_board::MarkBoard;
-use crate::refusal::RangeRefusal;
+use book::counts::Counts;
+use book::refusal::RangeRefusal;
 
 impl MarkBoard {
     // A board without mark facts, of these counts; of one name, no label and no mark where they are

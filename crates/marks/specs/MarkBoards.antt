@@ -1,9 +1,9 @@
 -- What a mark board means: counts and mark facts.
 use mathlib.Core.Bool.{Bool}
 use Prim.Native.Nat.{ℕ}
-use Rattle.book.specs.MarkBits.{marks-in}
+use Rattle.marks.specs.MarkBits.{marks-in}
 use Rattle.book.specs.declared.counts.Counts.{Counts}
-use Rattle.book.specs.declared.mark_board.MarkBoard.{MarkBoard}
+use Rattle.marks.specs.declared.mark_board.MarkBoard.{MarkBoard}
 
 -- its counts
 abbrev pub board-counts : MarkBoard → Counts

@@ -1,7 +1,7 @@
 // What every make of a book keeps in the same way: its counts, and one bit for each possible mark fact.
 ghost use Prim.Native.Nat.{_≤_};
-ghost use Rattle.book.specs.MarkBits.{CountedMarks};
-use crate::counts::Counts;
+ghost use Rattle.marks.specs.MarkBits.{CountedMarks};
+use book::counts::Counts;
 
 #[derive(Drop)]
 pub struct MarkBoard {

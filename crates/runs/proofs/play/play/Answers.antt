@@ -1,11 +1,11 @@
 use mathlib.Core.Path.{_≡_, sym, subst}
 use native.Mathlib.Omega.{arith}
-use Rattle.book.specs.declared.play.Call.the-variants.{Enter}
+use Rattle.runs.specs.declared.play.Call.the-variants.{Enter}
 use mathlib.Core.List.{_++_}
-use Rattle.book.specs.Runs.{answered, reached, LastDecides}
+use Rattle.runs.specs.Runs.{answered, reached, LastDecides}
 use lib.ListN.{take, drop}
-use Rattle.book.proofs.Running.{next-answers, next-reached, last-decides}
-use Rattle.book.proofs.play.play.Needs as need
+use Rattle.runs.proofs.Running.{next-answers, next-reached, last-decides}
+use Rattle.runs.proofs.play.play.Needs as need
 
 pub loop-i-again : need.loop-i-again
 loop-i-again g c =

@@ -3,9 +3,9 @@ use mathlib.Core.Path.{_≡_}
 use mathlib.Core.Bool.{Bool}
 use mathlib.Core.List.{List}
 use Prim.Native.Nat.{ℕ, _+_, _*_}
-use Rattle.book.specs.Bits.{lit}
+use Rattle.marks.specs.Bits.{lit}
 use Rattle.book.specs.Meaning.{inside2, count2}
 use Rattle.book.specs.declared.counts.Counts.{Counts}
 
 -- the mark facts that the words tell, within the counts
 abbrev pub marks-in : Counts → List ℕ → ℕ → ℕ → Bool

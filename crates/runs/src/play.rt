@@ -3,11 +3,11 @@ ghost use mathlib.Core.Path.{_≡_};
 ghost use mathlib.Core.List.{_++_};
 ghost use Prim.Native.Nat.{min};
 ghost use lib.ListN.{length, take, drop};
-ghost use Rattle.book.specs.Runs.{after, answer, answered, reached, LastDecides};
-use crate::faces::Keeping;
-use crate::refusal::EnterRefusal;
-use crate::refusal::RangeEnterRefusal;
-use crate::tie::Tie;
+ghost use Rattle.runs.specs.Runs.{after, answer, answered, reached, LastDecides};
+use book::faces::Keeping;
+use book::refusal::EnterRefusal;
+use book::refusal::RangeEnterRefusal;
+use book::tie::Tie;
 
 // A call that may alter a book.
 #[derive(Clone, Copy)]

@@ -17,13 +17,13 @@ use Rattle.std.specs.declared.option.Option.{Option}
 use Rattle.std.specs.declared.option.Option.the-variants.{Some, None}
 use Rattle.std.specs.declared.result.Result.{Result}
 use Rattle.std.specs.declared.result.Result.the-variants.{Ok, Err}
-use Rattle.book.specs.declared.play.Call.{Call}
-use Rattle.book.specs.declared.play.Call.the-variants.{Enter, Strike, SetMark, LiftMark}
+use Rattle.runs.specs.declared.play.Call.{Call}
+use Rattle.runs.specs.declared.play.Call.the-variants.{Enter, Strike, SetMark, LiftMark}
 use Rattle.book.specs.declared.refusal.EnterRefusal.{EnterRefusal}
 use Rattle.book.specs.declared.tie.Tie.{Tie}
 use Rattle.book.specs.Meaning.{Meaning, at3, at2, with-ties, with-marks}
 use Rattle.book.specs.Calls.{entering, entered, striking, struck, marking, marked-as, tie-within, mark-within, ranged}
-use Rattle.book.specs.Runs.{answer, after, answered, reached, ranging, Item, tie, mark, there, says, Unsaid, LastDecides}
+use Rattle.runs.specs.Runs.{answer, after, answered, reached, ranging, Item, tie, mark, there, says, Unsaid, LastDecides}
 
 pub reached-more : (m : Meaning) (xs ys : List Call) → reached m (xs ++ ys) ≡ reached (reached m xs) ys
 reached-more m [] ys = refl

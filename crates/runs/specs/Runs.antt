@@ -8,13 +8,13 @@ use Rattle.std.specs.declared.option.Option.{Option}
 use Rattle.std.specs.declared.option.Option.the-variants.{Some, None}
 use Rattle.std.specs.declared.result.Result.{Result}
 use Rattle.std.specs.declared.result.Result.the-variants.{Ok, Err}
-use Rattle.book.specs.declared.play.Call.{Call}
-use Rattle.book.specs.declared.play.Call.the-variants.{Enter, Strike, SetMark, LiftMark}
+use Rattle.runs.specs.declared.play.Call.{Call}
+use Rattle.runs.specs.declared.play.Call.the-variants.{Enter, Strike, SetMark, LiftMark}
 use Rattle.book.specs.declared.refusal.RangeRefusal.{RangeRefusal}
 use Rattle.book.specs.declared.refusal.EnterRefusal.{EnterRefusal}
 use Rattle.book.specs.declared.refusal.EnterRefusal.the-variants.{Range}
 use Rattle.book.specs.Meaning.{Meaning}
 use Rattle.book.specs.Calls.{entering, entered, striking, struck, marking, marked-as}
 
 -- a refusal of a number as an answer of any altering call
 abbrev pub ranging : Result (Unit {0}) RangeRefusal → Result (Unit {0}) EnterRefusal

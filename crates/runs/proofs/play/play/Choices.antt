@@ -2,8 +2,8 @@ use mathlib.Core.Path.{_≡_}
 use mathlib.Core.List.{_++_}
 use lib.ListN.{take, drop, length}
 use Prim.Native.Nat.{_≤_}
-use Rattle.book.specs.Runs.{answered, reached}
-use Rattle.book.proofs.play.play.Given as given
+use Rattle.runs.specs.Runs.{answered, reached}
+use Rattle.runs.proofs.play.play.Given as given
 
 abbrev pub Inv-loop-i : given.InvT-loop-i
 Inv-loop-i g l =

@@ -3,14 +3,14 @@ use mathlib.Core.Bool.{true, false, not, cond}
 use native.Mathlib.Omega.{arith}
 use lib.ListN.{length}
 use borrow.Author.Needs.{needs}
 use Rattle.book.proofs.Moves.{fun-ext2}
 use Rattle.std.proofs.shelf.Tests.{cond-true}
-use Rattle.book.specs.Bits.{lit}
+use Rattle.marks.specs.Bits.{lit}
 use Rattle.book.specs.Calls.{mark-within, ranged}
-use Rattle.book.specs.MarkBits.{marks-in}
+use Rattle.marks.specs.MarkBits.{marks-in}
 use Rattle.book.specs.Meaning.{at2}
-use Rattle.book.proofs.MarkMoves.{ranged-ok, differs, agrees, put-same, turned-marks, turned-more, turned-less, few-marks}
-use Rattle.book.proofs.mark_board.MarkBoard.put_mark.Needs as need
+use Rattle.marks.proofs.MarkMoves.{ranged-ok, differs, agrees, put-same, turned-marks, turned-more, turned-less, few-marks}
+use Rattle.marks.proofs.mark_board.MarkBoard.put_mark.Needs as need
 
 pub add-self : need.add-self
 add-self c = omega (arith, few-marks (c .args .self .now))

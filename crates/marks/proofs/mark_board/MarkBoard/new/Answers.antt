@@ -1,8 +1,8 @@
 use mathlib.Core.Path.{_≡_, sym, subst}
 use Prim.Native.Nat.{_≤_}
 use Rattle.book.proofs.Moves.{fun-ext2}
-use Rattle.book.proofs.MarkMoves.{made-named, made-few, unmarked, unmarked-counted}
-use Rattle.book.proofs.mark_board.MarkBoard.new.Needs as need
+use Rattle.marks.proofs.MarkMoves.{made-named, made-few, unmarked, unmarked-counted}
+use Rattle.marks.proofs.mark_board.MarkBoard.new.Needs as need
 
 pub ghost-result : need.ghost-result
 ghost-result c =
