@@ -36,7 +36,7 @@ impl EnterRefusal {
         ensures { λ r. ⌜ r ≡ enter-number self ⌝ }
     {
         match self {
-            EnterRefusal::Range(refusal) => refusal.number(),
+            EnterRefusal::Range(range) => range.number(),
             EnterRefusal::Full => 2,
         }
     }

@@ -1,0 +1,4 @@
+mod Gathering
+mod TieMoves
+mod BoardMoves
+mod RowLaws

@@ -1,0 +1,4 @@
+pub mod TieBits
+pub mod Making
+pub mod Boards
+pub mod Lowest

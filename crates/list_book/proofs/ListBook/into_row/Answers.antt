@@ -1,0 +1,6 @@
+use mathlib.Core.Path.{refl}
+use Rattle.list_book.proofs.Moves.{holds-ties}
+use Rattle.list_book.proofs.ListBook.into_row.Needs as need
+
+pub returns : need.returns
+returns c = record { length = refl; ties = holds-ties (c .args .self); past = refl }

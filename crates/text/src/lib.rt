@@ -1,0 +1,3 @@
+// Texts: their pieces between parting bytes, and what a word may hold.
+pub mod pieces;
+pub mod word;
