@@ -7,9 +7,9 @@ ghost use Rattle.board_book.specs.Boards.{«board-meaning»};
 ghost use Rattle.board_book.specs.Lowest.{Lowest};
 use crate::board::BoardBook;
 use crate::row::gather;
+use marks::bits::is_lit;
 use book::tie::Direction;
 use book::tie::Tie;
-use marks::bits::is_lit;
 
 impl BoardBook {
     // The lowest name not below `at` that the name is tied to.
