@@ -19,14 +19,14 @@ use Rattle.std.specs.declared.vec.Vec.{Vec}
 use Rattle.book.specs.declared.counts.Counts.{Counts}
 use Rattle.marks.specs.declared.mark_board.MarkBoard.{MarkBoard}
 use Rattle.book.specs.declared.tie.Tie.{Tie}
-use Rattle.marks.specs.Bits.{lit}
+use Rattle.bits.specs.Bits.{lit}
 use Rattle.book.specs.Calls.{tie-within, has, entering, entered}
 use Rattle.book.specs.Limits.{made-counts, least}
 use Rattle.marks.specs.MarkBoards.{board-counts, board-marks}
 use Rattle.book.specs.Meaning.{Meaning, ties-of, at3, opened, with-ties}
-use Rattle.book.proofs.Counting.{count3-le, count3-put}
+use Rattle.book_laws.proofs.Counting.{count3-le, count3-put}
 use Rattle.marks.proofs.MarkMoves.{differs, agrees}
-use Rattle.book.proofs.Moves.{fun-ext3, entering-there, entering-room, entered-by}
+use Rattle.book_laws.proofs.Moves.{fun-ext3, entering-there, entering-room, entered-by}
 use Rattle.board_book.specs.TieBits.{place, possible, ties-in, CountedTies, Clear}
 use Rattle.board_book.specs.Boards.{board-meaning}
 use Rattle.board_book.specs.Making.{fitting, fitted, needed, board-opened}

@@ -1,4 +1,3 @@
-mod Gathering
 mod TieMoves
 mod BoardMoves
 mod RowLaws

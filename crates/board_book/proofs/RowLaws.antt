@@ -13,13 +13,13 @@ use Rattle.std.specs.declared.option.Option.the-variants.{Some, None}
 use Rattle.std.specs.declared.result.Result.the-variants.{Ok}
 use Rattle.book.specs.declared.counts.Counts.{Counts}
 use Rattle.book.specs.declared.tie.Direction.{Direction}
-use Rattle.marks.specs.Bits.{bit, lit}
+use Rattle.bits.specs.Bits.{bit, lit}
 use Rattle.book.specs.Calls.{next-within, joins, Next}
 use Rattle.book.specs.Meaning.{Meaning}
 use Rattle.marks.proofs.MarkMoves.{and-false}
 use Rattle.board_book.specs.Lowest.{Lowest}
 use Rattle.board_book.specs.TieBits.{place, ties-in}
-use Rattle.board_book.proofs.Gathering.{trailing-clear, trailing-set}
+use Rattle.bits.proofs.Gathering.{trailing-clear, trailing-set}
 
 -- the bits of a row from `at` on, in one word
 module _ (c : Counts) (ws : List ℕ) (l s at i w : ℕ) (few : c .names ≤ 64) (within : next-within c l s at ≡ true)

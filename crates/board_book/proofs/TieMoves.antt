@@ -13,13 +13,13 @@ use Rattle.std.proofs.shelf.Tests.{cases-bool, ne-eqb, eq-eqb}
 use Rattle.std.proofs.shelf.Bits.{mul-add-lt, mul-le, div-mul-add, mod-mul-add}
 use Rattle.book.specs.declared.counts.Counts.{Counts}
 use Rattle.book.specs.declared.tie.Tie.{Tie}
-use Rattle.marks.specs.Bits.{lit}
+use Rattle.bits.specs.Bits.{lit}
 use Rattle.book.specs.Calls.{tie-within}
 use Rattle.book.specs.Meaning.{at3, count3}
-use Rattle.marks.proofs.BitLaws.{unlit}
-use Rattle.book.proofs.Counting.{count3-put, count3-cut, count3-none}
+use Rattle.bits.proofs.BitLaws.{unlit}
+use Rattle.book_laws.proofs.Counting.{count3-put, count3-cut, count3-none}
 use Rattle.marks.proofs.MarkMoves.{and-false}
-use Rattle.book.proofs.Moves.{fun-ext3}
+use Rattle.book_laws.proofs.Moves.{fun-ext3}
 use Rattle.board_book.specs.TieBits.{place, possible, ties-in, CountedTies, Clear}
 
 not-not : (b : Bool) → not (not b) ≡ b

@@ -4,7 +4,7 @@ ghost use mathlib.Core.Bool.{true, false};
 ghost use Rattle.book.specs.Calls.{entering, entered, striking, struck, marking, «marked-as»};
 ghost use Rattle.board_book.specs.Boards.{«board-meaning», «words-held»};
 use crate::board::BoardBook;
-use marks::bits::is_lit;
+use bits::rows::is_lit;
 use book::counts::Counts;
 use book::faces::Keeping;
 use book::faces::Reading;

@@ -3,6 +3,5 @@ pub mod board;
 pub mod keeping;
 pub mod making;
 pub mod refusal;
-mod row;
 mod seeking;
 mod turning;

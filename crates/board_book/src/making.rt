@@ -5,7 +5,7 @@ ghost use Prim.Native.Nat.{ℕ, _≤_, _<_, _*_};
 ghost use Rattle.std.specs.Of.Vec.{vec-items, vec-len};
 ghost use Rattle.std.specs.Orderings.{Decides};
 ghost use Rattle.std.specs.Results.{isOk};
-ghost use Rattle.marks.specs.Bits.{lit};
+ghost use Rattle.bits.specs.Bits.{lit};
 ghost use Rattle.book.specs.Limits.{Within};
 ghost use Rattle.board_book.specs.TieBits.{place, possible};
 ghost use Rattle.board_book.specs.Making.{fitting, fitted, «board-opened»};

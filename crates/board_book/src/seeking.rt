@@ -6,8 +6,8 @@ ghost use Rattle.marks.specs.MarkBoards.{«board-counts»};
 ghost use Rattle.board_book.specs.Boards.{«board-meaning»};
 ghost use Rattle.board_book.specs.Lowest.{Lowest};
 use crate::board::BoardBook;
-use crate::row::gather;
-use marks::bits::is_lit;
+use bits::gather::gather;
+use bits::rows::is_lit;
 use book::tie::Direction;
 use book::tie::Tie;
 

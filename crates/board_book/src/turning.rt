@@ -7,8 +7,8 @@ ghost use Rattle.book.specs.Meaning.{at3, «with-ties»};
 ghost use Rattle.board_book.specs.TieBits.{place};
 ghost use Rattle.board_book.specs.Boards.{«board-meaning», «words-held»};
 use crate::board::BoardBook;
-use marks::bits::flip;
-use marks::bits::is_lit;
+use bits::rows::flip;
+use bits::rows::is_lit;
 use book::tie::Tie;
 
 impl BoardBook {

@@ -24,8 +24,8 @@ use Rattle.book.specs.declared.tie.Tie.{Tie}
 use Rattle.book.specs.Meaning.{at3, count3, ties-of}
 use Rattle.marks.specs.MarkBoards.{board-counts}
 use Rattle.book.specs.Calls.{tie-within, ranged}
-use Rattle.book.proofs.Counting.{count3-put, count3-cut}
-use Rattle.book.proofs.Moves.{fun-ext3}
+use Rattle.book_laws.proofs.Counting.{count3-put, count3-cut}
+use Rattle.book_laws.proofs.Moves.{fun-ext3}
 use Rattle.marks.proofs.MarkMoves.{ranged-ok}
 use Rattle.list_book.specs.declared.ListBook.{ListBook}
 use Rattle.list_book.specs.Listed.{is-tie, same, times, listed, Once, Inside, Counted, HoldsTies}

@@ -9,8 +9,8 @@ use Rattle.std.proofs.shelf.Ways.{tells}
 use Rattle.book.specs.declared.counts.Counts.{Counts}
 use Rattle.book.specs.Limits.{within, least, made-counts}
 use Rattle.book.specs.Meaning.{Meaning, opened}
-use Rattle.book.proofs.Counting.{count3-none}
-use Rattle.book.proofs.Moves.{fun-ext3}
+use Rattle.book_laws.proofs.Counting.{count3-none}
+use Rattle.book_laws.proofs.Moves.{fun-ext3}
 use Rattle.list_book.specs.Listed.{listed, Once, Inside, Counted}
 use Rattle.list_book.specs.ListBooks.{made-meaning}
 use Rattle.list_book.proofs.Times.{times-nil}

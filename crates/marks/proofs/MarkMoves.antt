@@ -12,15 +12,15 @@ use Rattle.std.proofs.shelf.Tests.{cases-bool, ne-eqb, eq-eqb, cond-true}
 use Rattle.std.proofs.shelf.Bits.{mul-le}
 use Rattle.marks.specs.declared.mark_board.MarkBoard.{MarkBoard}
 use Rattle.book.specs.declared.counts.Counts.{Counts}
-use Rattle.marks.specs.Bits.{lit}
+use Rattle.bits.specs.Bits.{lit}
 use Rattle.std.specs.declared.result.Result.the-variants.{Ok}
 use Rattle.book.specs.Calls.{mark-within, ranged}
 use Rattle.book.specs.Limits.{made-counts}
 use Rattle.marks.specs.MarkBits.{marks-in, CountedMarks}
 use Rattle.book.specs.Meaning.{at2, count2}
-use Rattle.marks.proofs.BitLaws.{unlit}
-use Rattle.book.proofs.Counting.{count2-put, count2-cut, count2-none, count2-le}
-use Rattle.book.proofs.Moves.{fun-ext2}
+use Rattle.bits.proofs.BitLaws.{unlit}
+use Rattle.book_laws.proofs.Counting.{count2-put, count2-cut, count2-none, count2-le}
+use Rattle.book_laws.proofs.Moves.{fun-ext2}
 
 pub and-false : (a b : Bool) → b ≡ false → (a && b) ≡ false
 and-false a b e = grind (arith, e)

@@ -3,7 +3,7 @@ use mathlib.Core.Path.{_≡_}
 use mathlib.Core.Bool.{Bool}
 use mathlib.Core.List.{List}
 use Prim.Native.Nat.{ℕ, _+_, _*_}
-use Rattle.marks.specs.Bits.{lit}
+use Rattle.bits.specs.Bits.{lit}
 use Rattle.book.specs.Meaning.{inside2, count2}
 use Rattle.book.specs.declared.counts.Counts.{Counts}
 

@@ -2,9 +2,9 @@ use mathlib.Core.Path.{_≡_, refl, sym, ap, subst, _∙_}
 use Prim.Native.Nat.{_≤_, _*_}
 use lib.ListN.{length}
 use Rattle.std.specs.Of.Vec.{vec-len}
-use Rattle.marks.specs.Bits.{lit}
+use Rattle.bits.specs.Bits.{lit}
 use Rattle.marks.specs.MarkBoards.{board-counts}
-use Rattle.marks.proofs.BitLaws.{unlit}
+use Rattle.bits.proofs.BitLaws.{unlit}
 use Rattle.board_book.specs.Making.{fitted}
 use Rattle.board_book.specs.TieBits.{possible, CountedTies}
 use Rattle.board_book.proofs.BoardMoves.{new-counts, new-enough, cleared, new-means}

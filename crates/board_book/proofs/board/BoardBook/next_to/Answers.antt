@@ -2,7 +2,7 @@ use mathlib.Core.Path.{_≡_, subst, ap}
 use Prim.Native.Nat.{ℕ, _+_, _<_}
 use native.Mathlib.Omega.{arith}
 use Rattle.std.specs.Of.Vec.{vec-items}
-use Rattle.marks.specs.Bits.{bit, lit}
+use Rattle.bits.specs.Bits.{bit, lit}
 use Rattle.marks.specs.MarkBoards.{board-counts}
 use Rattle.board_book.proofs.RowLaws.{row-none, row-found}
 use Rattle.board_book.proofs.board.BoardBook.next_to.Needs as need

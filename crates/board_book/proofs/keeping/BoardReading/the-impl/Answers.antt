@@ -2,7 +2,7 @@ use native.Mathlib.Omega.{arith}
 use Rattle.std.proofs.shelf.Ways.{tells}
 use Rattle.book.specs.Meaning.{ties-of}
 use Rattle.marks.specs.MarkBoards.{board-counts}
-use Rattle.book.proofs.Counting.{count3-le}
+use Rattle.book_laws.proofs.Counting.{count3-le}
 use Rattle.board_book.specs.Boards.{board-meaning}
 use Rattle.board_book.proofs.keeping.BoardReading.the-impl.Needs as need
 

@@ -7,7 +7,7 @@ use Rattle.book.specs.Meaning.{with-ties, ties-of}
 use Rattle.book.specs.Calls.{has}
 use Rattle.marks.specs.MarkBoards.{board-counts}
 use Rattle.book.specs.declared.refusal.EnterRefusal.the-variants.{Full}
-use Rattle.book.proofs.Moves.{entered-by, entered-there, entered-refused, entering-there, entering-room, entering-full}
+use Rattle.book_laws.proofs.Moves.{entered-by, entered-there, entered-refused, entering-there, entering-room, entering-full}
 use Rattle.list_book.specs.Listed.{listed}
 use Rattle.list_book.specs.ListBooks.{list-meaning, row-ties}
 use Rattle.list_book.proofs.Moves.{Stand, ties-stand, count, tie-in, none-lent, some-lent, same-front, grew-room, grew-front, full-lent, rest-now, placed, placed-stand}

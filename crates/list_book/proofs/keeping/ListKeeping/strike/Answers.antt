@@ -8,7 +8,7 @@ use Rattle.std.specs.declared.option.Option.the-variants.{None}
 use Rattle.rows.specs.Rows.{FirstAt, Finds}
 use Rattle.book.specs.Calls.{has, ranged}
 use Rattle.marks.specs.MarkBoards.{board-counts}
-use Rattle.book.proofs.Moves.{struck-by, struck-absent}
+use Rattle.book_laws.proofs.Moves.{struck-by, struck-absent}
 use Rattle.list_book.specs.Listed.{same}
 use Rattle.list_book.specs.ListBooks.{list-meaning, row-ties}
 use Rattle.list_book.proofs.Times.{absent-times, found-times}

@@ -1,6 +1,6 @@
 use mathlib.Core.Path.{_≡_, sym, subst}
 use Prim.Native.Nat.{_≤_}
-use Rattle.book.proofs.Moves.{fun-ext2}
+use Rattle.book_laws.proofs.Moves.{fun-ext2}
 use Rattle.marks.proofs.MarkMoves.{made-named, made-few, unmarked, unmarked-counted}
 use Rattle.marks.proofs.mark_board.MarkBoard.new.Needs as need
 

@@ -3,9 +3,9 @@ use mathlib.Core.Bool.{true, false, not, cond}
 use native.Mathlib.Omega.{arith}
 use lib.ListN.{length}
 use borrow.Author.Needs.{needs}
-use Rattle.book.proofs.Moves.{fun-ext2}
+use Rattle.book_laws.proofs.Moves.{fun-ext2}
 use Rattle.std.proofs.shelf.Tests.{cond-true}
-use Rattle.marks.specs.Bits.{lit}
+use Rattle.bits.specs.Bits.{lit}
 use Rattle.book.specs.Calls.{mark-within, ranged}
 use Rattle.marks.specs.MarkBits.{marks-in}
 use Rattle.book.specs.Meaning.{at2}

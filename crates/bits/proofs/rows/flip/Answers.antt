@@ -4,9 +4,9 @@ use lib.Bits.{bitXor}
 use lib.ListN.{getD, set, length}
 use Prim.Native.Nat.{_/_, _%_, _^_, _*_, _<_}
 use Rattle.std.proofs.shelf.Bits.{one-shl, mod-below, div-below}
-use Rattle.marks.specs.Bits.{lit}
-use Rattle.marks.proofs.BitLaws.{lit-flip}
-use Rattle.marks.proofs.bits.flip.Needs as need
+use Rattle.bits.specs.Bits.{lit}
+use Rattle.bits.proofs.BitLaws.{lit-flip}
+use Rattle.bits.proofs.rows.flip.Needs as need
 
 pub returns-then-at-words : need.returns-then-at-words
 returns-then-at-words c =

@@ -1,5 +1,5 @@
-use Rattle.board_book.proofs.Gathering.{gathered-whole, gathered-parts}
-use Rattle.board_book.proofs.row.gather.Needs as need
+use Rattle.bits.proofs.Gathering.{gathered-whole, gathered-parts}
+use Rattle.bits.proofs.gather.gather.Needs as need
 
 pub returns-then-low-eq0 : need.returns-then-low-eq0
 returns-then-low-eq0 c k lt = gathered-whole (c .args .words .now) (c .args .i) k (c .word .result) lt (c .word .ensures) (c .if-low-eq0 .taken)

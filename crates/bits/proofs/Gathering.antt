@@ -13,7 +13,7 @@ use lib.ListN.{getD}
 use lib.Pow.{pow-mono}
 use Rattle.std.proofs.shelf.Tests.{cases-eq, cases-lt}
 use Rattle.std.proofs.shelf.Bits.{pow-pos, pow-add, shl-shr, shr-shr, or-shr, or-mod, mod-mul-add, div-below, mod-below, field-of, mod-pow-add}
-use Rattle.marks.specs.Bits.{bit, lit}
+use Rattle.bits.specs.Bits.{bit, lit}
 
 pub bit-shr : (w s k : ℕ) → bit (w / 2 ^ s) k ≡ bit w (s + k)
 unfolding bit

@@ -13,7 +13,7 @@ use Rattle.std.proofs.shelf.Ways.{tells}
 use Rattle.std.proofs.shelf.Tests.{cases-eq, cases-lt, cases-order, cases-bool, eq-eqb, ne-eqb}
 use Rattle.std.proofs.shelf.Lists.{getD-set-same, getD-set-other, getD-replicate, getD-past, length-replicate}
 use Rattle.std.proofs.shelf.Bits.{pow-pos, pow-add, shl-shr, xor-shr, xor-mod, and-mask, mod-mul-add, div-mul-add, div-below, mod-below, pow-below, div-add-mod'}
-use Rattle.marks.specs.Bits.{bit, lit}
+use Rattle.bits.specs.Bits.{bit, lit}
 
 pow-bit-same : (k : ℕ) → 2 ^ k / 2 ^ k % 2 ≡ 1
 pow-bit-same k =

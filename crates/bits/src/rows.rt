@@ -4,7 +4,7 @@ ghost use mathlib.Core.Bool.{cond, not};
 ghost use Prim.Native.Nat.{ℕ, _<_, _≤_, _*_};
 ghost use lib.Dec.{eqb};
 ghost use lib.ListN.{length};
-ghost use Rattle.marks.specs.Bits.{lit};
+ghost use Rattle.bits.specs.Bits.{lit};
 
 // Whether bit i is set; past the words none is.
 pub fn is_lit(words: &[u64], i: usize) -> bool
