@@ -6,9 +6,9 @@ ghost use Rattle.book.specs.Meaning.{at2, count2};
 ghost use Rattle.book.specs.Limits.{«made-counts»};
 ghost use Rattle.marks.specs.MarkBoards.{«board-counts», «board-marks»};
 ghost use Rattle.std.specs.declared.result.Result.the-variants.{Ok, Err};
+use crate::mark_board::MarkBoard;
 use bits::rows::flip;
 use bits::rows::is_lit;
-use crate::mark_board::MarkBoard;
 use book::counts::Counts;
 use book::refusal::RangeRefusal;
 

@@ -1,0 +1,14 @@
+use mathlib.Core.Path.{_≡_, _∙_}
+use native.Mathlib.Omega.{arith}
+use borrow.Author.Needs.{needs}
+use borrow.Author.Tests.{ltb-true, ltb-false}
+use Prim.Native.Nat.{_≤_}
+use lib.ListN.{length, getD}
+use Rattle.commands.proofs.Decimals.{behind-hash}
+use Rattle.commands.proofs.resolve.hash_number.Needs as need
+
+pub returns-in-35 : need.returns-in-35
+returns-in-35 c =
+    let some : 1 ≤ length (c .args .word .now) = omega (arith, ltb-true, ltb-false) in
+    let is : getD (c .args .word .now) 0 0 ≡ 35 = search needs in
+    c .byte-number .ensures ∙ behind-hash (c .args .word .now) _ some is (omega arith)
