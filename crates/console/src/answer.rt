@@ -1,6 +1,6 @@
 // Answer lines.
-use commands::request::Reply;
-use commands::request::Tally;
+use requests::request::Reply;
+use requests::request::Tally;
 use roll::list::List;
 use roll::roll::Roll;
 use roll::roll::RollFault;

@@ -1,5 +1,7 @@
 // A console that keeps a book: a line of commands in, an answer line out.
 mod answer;
+mod order;
+mod resolve;
 mod session;
 
 use session::Session;

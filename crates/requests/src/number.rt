@@ -1,7 +1,7 @@
 // Plain decimal numbers.
 ghost use mathlib.Core.Path.{_≡_};
 ghost use Prim.Native.Nat.{_+_, _*_, min};
-ghost use Rattle.commands.specs.Decimal.{written};
+ghost use Rattle.requests.specs.Decimal.{written};
 
 // The number that the word writes in decimal digits, or `most` where it is greater; none where the word
 // is empty or has another byte.

@@ -8,7 +8,7 @@ use Rattle.std.specs.declared.option.Option.the-variants.{Some, None}
 use Rattle.roll.specs.declared.list.List.{List as Which}
 use Rattle.roll.specs.declared.roll.Roll.{Roll}
 use Rattle.roll.specs.Rolls.{numberOf}
-use Rattle.commands.specs.Decimal.{written}
+use Rattle.requests.specs.Decimal.{written}
 
 -- the first of two that is there
 abbrev pub orElse : Option ℕ → Option ℕ → Option ℕ

@@ -4,12 +4,12 @@ use mathlib.Core.Bool.{true}
 use Prim.Native.Nat.{_≤_, min}
 use Rattle.std.proofs.shelf.Ways.{tells}
 use Rattle.std.specs.declared.option.Option.the-variants.{Some}
-use Rattle.commands.specs.Decimal.{digits, value}
+use Rattle.requests.specs.Decimal.{digits, value}
 use mathlib.Core.Path.{_≡_, sym, ap, subst, _∙_}
 use lib.ListN.{take, length}
 use Rattle.std.proofs.shelf.Lists.{take-all}
-use Rattle.commands.proofs.Decimals.{digits-bad, written-bad, written-good, digits-next, value-next}
-use Rattle.commands.proofs.number.decimal.Needs as need
+use Rattle.requests.proofs.Decimals.{digits-bad, written-bad, written-good, digits-next, value-next}
+use Rattle.requests.proofs.number.decimal.Needs as need
 
 pub loop-byte-again : need.loop-byte-again
 loop-byte-again c =

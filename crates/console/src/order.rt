@@ -1,7 +1,7 @@
 // What a line of the console asks for.
-use crate::number::byte_number;
-use crate::number::decimal;
 use book::tie::Direction;
+use requests::number::byte_number;
+use requests::number::decimal;
 use roll::list::List;
 use text::pieces::Pieces;
 

@@ -4,8 +4,8 @@ use borrow.Author.Needs.{needs}
 use borrow.Author.Tests.{ltb-true, ltb-false}
 use Prim.Native.Nat.{_≤_}
 use lib.ListN.{length, getD}
-use Rattle.commands.proofs.Decimals.{behind-hash}
-use Rattle.commands.proofs.resolve.hash_number.Needs as need
+use Rattle.requests.proofs.Decimals.{behind-hash}
+use Rattle.requests.proofs.operand.hash_number.Needs as need
 
 pub returns-in-35 : need.returns-in-35
 returns-in-35 c =

@@ -11,10 +11,10 @@ use Rattle.book.specs.Refusals.{range-number, enter-number}
 use Rattle.book.specs.Meaning.{Meaning, ties-of, marks-of}
 use Rattle.book.specs.Calls.{TieTold, MarkTold, Next}
 use Rattle.runs.specs.Runs.{answer, after}
-use Rattle.commands.specs.declared.request.Request.{Request}
-use Rattle.commands.specs.declared.request.Request.the-variants.{Alter, HasTie, HasMark, Next as AskNext, Tally as AskTally}
-use Rattle.commands.specs.declared.request.Reply.{Reply}
-use Rattle.commands.specs.declared.request.Reply.the-variants.{Done, Refused, Told, Name, Tally}
+use Rattle.requests.specs.declared.request.Request.{Request}
+use Rattle.requests.specs.declared.request.Request.the-variants.{Alter, HasTie, HasMark, Next as AskNext, Tally as AskTally}
+use Rattle.requests.specs.declared.request.Reply.{Reply}
+use Rattle.requests.specs.declared.request.Reply.the-variants.{Done, Refused, Told, Name, Tally}
 
 -- the reply to an altering call, from its answer
 abbrev pub done : Result (Unit {0}) EnterRefusal → Reply

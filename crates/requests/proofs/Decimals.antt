@@ -12,8 +12,8 @@ use Rattle.std.proofs.shelf.Tests.{cond-true, eq-eqb}
 use Rattle.std.proofs.shelf.Lists.{take-more, take-all}
 use Rattle.std.specs.declared.option.Option.{Option}
 use Rattle.std.specs.declared.option.Option.the-variants.{Some, None}
-use Rattle.commands.specs.Decimal.{digits, value, written}
-use Rattle.commands.specs.Operands.{numbered}
+use Rattle.requests.specs.Decimal.{digits, value, written}
+use Rattle.requests.specs.Operands.{numbered}
 
 value-more : (n : ℕ) (xs : List ℕ) (b : ℕ) → value n (xs ++ (b ∷ [])) ≡ 10 * value n xs + (b - 48)
 value-more n [] b = refl

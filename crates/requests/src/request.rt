@@ -1,6 +1,6 @@
 // What a book is asked at the console, and what it replies.
 ghost use mathlib.Core.Path.{_≡_};
-ghost use Rattle.commands.specs.Requests.{Replies, left};
+ghost use Rattle.requests.specs.Requests.{Replies, left};
 use book::counts::Counts;
 use book::faces::Keeping;
 use book::tie::Direction;
