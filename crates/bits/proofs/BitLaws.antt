@@ -13,7 +13,7 @@ use Rattle.std.proofs.shelf.Ways.{tells}
 use Rattle.std.proofs.shelf.Tests.{cases-eq, cases-lt, cases-order, cases-bool, eq-eqb, ne-eqb}
 use Rattle.std.proofs.shelf.Lists.{getD-set-same, getD-set-other, getD-replicate, getD-past, length-replicate}
 use Rattle.std.proofs.shelf.Bits.{pow-pos, pow-add, shl-shr, xor-shr, xor-mod, and-mask, mod-mul-add, div-mul-add, div-below, mod-below, pow-below, div-add-mod'}
-use Rattle.bits.specs.Bits.{bit, lit}
+use Rattle.bits.specs.Bits.{bit, bit-set}
 
 pow-bit-same : (k : ℕ) → 2 ^ k / 2 ^ k % 2 ≡ 1
 pow-bit-same k =
@@ -70,7 +70,7 @@ unfolding bit
 bit-read w k = ap (λ n. eqb n 1) (and-mask (w / 2 ^ k) 1)
 
 pub lit-flip : (ws : List ℕ) (i : ℕ) → i / 64 < length ws
-    → (j : ℕ) → lit (set ws (i / 64) (bitXor (getD ws (i / 64) 0) (2 ^ (i % 64)))) j ≡ cond (eqb i j) (not (lit ws j)) (lit ws j)
+    → (j : ℕ) → bit-set (set ws (i / 64) (bitXor (getD ws (i / 64) 0) (2 ^ (i % 64)))) j ≡ cond (eqb i j) (not (bit-set ws j)) (bit-set ws j)
 lit-flip ws i within j =
     ⊎-elim
     (λ (e : j / 64 ≡ i / 64).
@@ -83,7 +83,7 @@ lit-flip ws i within j =
     (λ ne.
     let read = getD-set-other ws (i / 64) (j / 64) (bitXor (getD ws (i / 64) 0) (2 ^ (i % 64))) 0 ne in
     let apart : eqb i j ≡ false = ne-eqb i j (λ e. ne (ap (λ n. n / 64) (sym e))) in
-    ap (λ v. bit v (j % 64)) read ∙ sym (ap (λ b. cond b (not (lit ws j)) (lit ws j)) apart))
+    ap (λ v. bit v (j % 64)) read ∙ sym (ap (λ b. cond b (not (bit-set ws j)) (bit-set ws j)) apart))
     (cases-eq (j / 64) (i / 64))
 
 -- no bit of 0 is set
@@ -92,12 +92,12 @@ unfolding bit
 bit-zero k = ap (λ n. eqb (n % 2) 1) (zero-div (2 ^ k))
 
 -- and none of a row of zeros
-pub unlit : (n j : ℕ) → lit (replicate n 0) j ≡ false
+pub unlit : (n j : ℕ) → bit-set (replicate n 0) j ≡ false
 unlit n j =
     let word : getD (replicate n 0) (j / 64) 0 ≡ 0 =
     ⊎-elim (λ lt. getD-replicate n (j / 64) 0 0 lt) (λ le. getD-past (replicate n 0) (j / 64) 0 (subst (λ k. k ≤ j / 64) (sym (length-replicate n 0)) le)) (cases-lt (j / 64) n) in
     ap (λ w. bit w (j % 64)) word ∙ bit-zero (j % 64)
 
 -- and none past the words
-pub lit-past : (ws : List ℕ) (i : ℕ) → length ws ≤ i / 64 → lit ws i ≡ false
+pub lit-past : (ws : List ℕ) (i : ℕ) → length ws ≤ i / 64 → bit-set ws i ≡ false
 lit-past ws i past = ap (λ w. bit w (i % 64)) (getD-past ws (i / 64) 0 past) ∙ bit-zero (i % 64)

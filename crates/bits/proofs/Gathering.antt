@@ -13,7 +13,7 @@ use lib.ListN.{getD}
 use lib.Pow.{pow-mono}
 use Rattle.std.proofs.shelf.Tests.{cases-eq, cases-lt}
 use Rattle.std.proofs.shelf.Bits.{pow-pos, pow-add, shl-shr, shr-shr, or-shr, or-mod, mod-mul-add, div-below, mod-below, field-of, mod-pow-add}
-use Rattle.bits.specs.Bits.{bit, lit}
+use Rattle.bits.specs.Bits.{bit, bit-set}
 
 pub bit-shr : (w s k : ℕ) → bit (w / 2 ^ s) k ≡ bit w (s + k)
 unfolding bit
@@ -72,17 +72,17 @@ or-false false = refl
 
 -- the bits from bit i on: the word in which it stands, and the next one
 module _ (ws : List ℕ) (i k a : ℕ) (k-in : k < 64) (first : a ≡ getD ws (i / 64) 0) where
-  within-first : i % 64 + k < 64 → bit (a / 2 ^ (i % 64)) k ≡ lit ws (i + k)
+  within-first : i % 64 + k < 64 → bit (a / 2 ^ (i % 64)) k ≡ bit-set ws (i + k)
   within-first lt =
       let at : i / 64 ≡ (i + k) / 64 = omega arith in
       let r : i % 64 + k ≡ (i + k) % 64 = omega arith in
       bit-shr a (i % 64) k ∙ ap (λ w. bit w (i % 64 + k)) (first ∙ ap (λ n. getD ws n 0) at) ∙ ap (bit (getD ws ((i + k) / 64) 0)) r
 
-  pub gathered-whole : i % 64 ≡ 0 → bit (a / 2 ^ (i % 64)) k ≡ lit ws (i + k)
+  pub gathered-whole : i % 64 ≡ 0 → bit (a / 2 ^ (i % 64)) k ≡ bit-set ws (i + k)
   gathered-whole e = within-first (omega arith)
 
   pub gathered-parts : (b : ℕ) → (i % 64 ≡ 0 → ⊥) → a < 2 ^ 64 → b ≡ getD ws (i / 64 + 1) 0
-      → bit (bitOr (a / 2 ^ (i % 64)) ((b * 2 ^ (64 - i % 64)) % 2 ^ 64)) k ≡ lit ws (i + k)
+      → bit (bitOr (a / 2 ^ (i % 64)) ((b * 2 ^ (64 - i % 64)) % 2 ^ 64)) k ≡ bit-set ws (i + k)
   gathered-parts b ne fits second =
       let s = 64 - i % 64 in
       let upper : bit ((b * 2 ^ s) % 2 ^ 64) k ≡ bit (b * 2 ^ s) k = bit-kept (b * 2 ^ s) k k-in in

@@ -10,5 +10,5 @@ unfoldable pub bit : ℕ → ℕ → Bool
 bit w k = eqb (w / 2 ^ k % 2) 1
 
 -- bit i of a row of words is set, 64 to a word; past the words none is
-abbrev pub lit : List ℕ → ℕ → Bool
-lit ws i = bit (getD ws (i / 64) 0) (i % 64)
+abbrev pub bit-set : List ℕ → ℕ → Bool
+bit-set ws i = bit (getD ws (i / 64) 0) (i % 64)

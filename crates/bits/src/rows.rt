@@ -4,11 +4,11 @@ ghost use mathlib.Core.Bool.{cond, not};
 ghost use Prim.Native.Nat.{ℕ, _<_, _≤_, _*_};
 ghost use lib.Dec.{eqb};
 ghost use lib.ListN.{length};
-ghost use Rattle.bits.specs.Bits.{lit};
+ghost use Rattle.bits.specs.Bits.{bit-set};
 
 // Whether bit i is set; past the words none is.
-pub fn is_lit(words: &[u64], i: usize) -> bool
-    ensures { λ r. ⌜ r ≡ lit (now (words .entry)) i ⌝ }
+pub fn is_set(words: &[u64], i: usize) -> bool
+    ensures { λ r. ⌜ r ≡ bit-set (now (words .entry)) i ⌝ }
 {
     let at = i / 64;
     if at < words.len() {
@@ -20,7 +20,7 @@ pub fn is_lit(words: &[u64], i: usize) -> bool
 
 // Turns bit i over; past the words nothing is altered.
 pub fn flip(words: &mut [u64], i: usize)
-    ensures turned { λ _. ⌜ (i < length (now (words .entry)) * 64 → (j : ℕ) → lit (now (words .exit)) j ≡ cond (eqb i j) (not (lit (now (words .entry)) j)) (lit (now (words .entry)) j)) ⌝ }
+    ensures turned { λ _. ⌜ (i < length (now (words .entry)) * 64 → (j : ℕ) → bit-set (now (words .exit)) j ≡ cond (eqb i j) (not (bit-set (now (words .entry)) j)) (bit-set (now (words .entry)) j)) ⌝ }
     ensures past { λ _. ⌜ (length (now (words .entry)) * 64 ≤ i → now (words .exit) ≡ now (words .entry)) ⌝ }
 {
     let at = i / 64;

@@ -13,7 +13,7 @@ use Rattle.std.proofs.shelf.Tests.{cases-bool, ne-eqb, eq-eqb}
 use Rattle.std.proofs.shelf.Bits.{mul-add-lt, mul-le, div-mul-add, mod-mul-add}
 use Rattle.book.specs.declared.counts.Counts.{Counts}
 use Rattle.book.specs.declared.tie.Tie.{Tie}
-use Rattle.bits.specs.Bits.{lit}
+use Rattle.bits.specs.Bits.{bit-set}
 use Rattle.book.specs.Calls.{tie-within}
 use Rattle.book.specs.Meaning.{at3, count3}
 use Rattle.bits.proofs.BitLaws.{unlit}
@@ -58,7 +58,7 @@ untied-counted c n = sym (count3-none (c .labels) (c .names) _ (untied c n))
 
 -- the bit of one tie was turned over
 module _ (c : Counts) (ws vs : List ℕ) (t : Tie) (within : tie-within c t ≡ true)
-    (flipped : (j : ℕ) → lit vs j ≡ cond (eqb (place (c .names) (t .label) (t .from) (t .to)) j) (not (lit ws j)) (lit ws j)) where
+    (flipped : (j : ℕ) → bit-set vs j ≡ cond (eqb (place (c .names) (t .label) (t .from) (t .to)) j) (not (bit-set ws j)) (bit-set ws j)) where
   abbrev here : ℕ
   here = place (c .names) (t .label) (t .from) (t .to)
 
@@ -71,10 +71,10 @@ module _ (c : Counts) (ws vs : List ℕ) (t : Tie) (within : tie-within c t ≡ 
   t-in : t .to < c .names
   t-in = grind (arith, tells, within)
 
-  kept : (j : ℕ) → (here ≡ j → ⊥) → lit vs j ≡ lit ws j
-  kept j apart = flipped j ∙ ap (λ b. cond b (not (lit ws j)) (lit ws j)) (ne-eqb here j apart)
+  kept : (j : ℕ) → (here ≡ j → ⊥) → bit-set vs j ≡ bit-set ws j
+  kept j apart = flipped j ∙ ap (λ b. cond b (not (bit-set ws j)) (bit-set ws j)) (ne-eqb here j apart)
 
-  pub put : (v : Bool) → lit ws here ≡ not v → (x y z : ℕ) → ties-in c vs x y z ≡ at3 (ties-in c ws) (t .label) (t .from) (t .to) v x y z
+  pub put : (v : Bool) → bit-set ws here ≡ not v → (x y z : ℕ) → ties-in c vs x y z ≡ at3 (ties-in c ws) (t .label) (t .from) (t .to) v x y z
   put v was x y z =
       ⊎-elim
       (λ (e : (eqb (t .label) x && eqb (t .from) y && eqb (t .to) z) ≡ true).
@@ -82,8 +82,8 @@ module _ (c : Counts) (ws vs : List ℕ) (t : Tie) (within : tie-within c t ≡ 
       let fy : t .from ≡ y = grind (arith, tells, e) in
       let tz : t .to ≡ z = grind (arith, tells, e) in
       let at : here ≡ place (c .names) x y z = cc in
-      let now-lit : lit vs (place (c .names) x y z) ≡ v =
-      subst (λ j. lit vs j ≡ v) at (flipped here ∙ ap (λ b. cond b (not (lit ws here)) (lit ws here)) (eq-eqb here here refl) ∙ ap not was ∙ not-not v) in
+      let now-lit : bit-set vs (place (c .names) x y z) ≡ v =
+      subst (λ j. bit-set vs j ≡ v) at (flipped here ∙ ap (λ b. cond b (not (bit-set ws here)) (bit-set ws here)) (eq-eqb here here refl) ∙ ap not was ∙ not-not v) in
       grind (arith, tells, e, within, now-lit))
       (λ (e : (eqb (t .label) x && eqb (t .from) y && eqb (t .to) z) ≡ false).
       ⊎-elim
@@ -96,16 +96,16 @@ module _ (c : Counts) (ws vs : List ℕ) (t : Tie) (within : tie-within c t ≡ 
       (cases-bool (ltb x (c .labels) && ltb y (c .names) && ltb z (c .names))))
       (cases-bool (eqb (t .label) x && eqb (t .from) y && eqb (t .to) z))
 
-  was-told : (v : Bool) → lit ws here ≡ v → ties-in c ws (t .label) (t .from) (t .to) ≡ v
+  was-told : (v : Bool) → bit-set ws here ≡ v → ties-in c ws (t .label) (t .from) (t .to) ≡ v
   was-told v was = grind (arith, within, was)
 
-  pub put-counted : (used : ℕ) → CountedTies c ws used → lit ws here ≡ false → CountedTies c vs (used + 1)
+  pub put-counted : (used : ℕ) → CountedTies c ws used → bit-set ws here ≡ false → CountedTies c vs (used + 1)
   put-counted used counted was =
       let more = count3-put (c .labels) (c .names) (ties-in c ws) (t .label) (t .from) (t .to) l-in f-in t-in (was-told false was) in
       let same-count = ap (count3 (c .labels) (c .names)) (fun-ext3 (put true was)) in
       ap (λ n. n + 1) counted ∙ sym more ∙ sym same-count
 
-  pub cut-counted : (used : ℕ) → CountedTies c ws used → lit ws here ≡ true → (0 < used) × CountedTies c vs (used - 1)
+  pub cut-counted : (used : ℕ) → CountedTies c ws used → bit-set ws here ≡ true → (0 < used) × CountedTies c vs (used - 1)
   cut-counted used counted was =
       let less = count3-cut (c .labels) (c .names) (ties-in c ws) (t .label) (t .from) (t .to) l-in f-in t-in (was-told true was) in
       let same-count = ap (count3 (c .labels) (c .names)) (fun-ext3 (put false was)) in
@@ -116,6 +116,6 @@ module _ (c : Counts) (ws vs : List ℕ) (t : Tie) (within : tie-within c t ≡ 
   still-clear clear j past = kept j (λ same. let low = place-below c t within in omega (arith, low, same, past)) ∙ clear j past
 
 -- the bit is as it should be
-pub put-same : (c : Counts) (ws : List ℕ) (t : Tie) (v : Bool) → tie-within c t ≡ true → lit ws (place (c .names) (t .label) (t .from) (t .to)) ≡ v
+pub put-same : (c : Counts) (ws : List ℕ) (t : Tie) (v : Bool) → tie-within c t ≡ true → bit-set ws (place (c .names) (t .label) (t .from) (t .to)) ≡ v
     → (x y z : ℕ) → ties-in c ws x y z ≡ at3 (ties-in c ws) (t .label) (t .from) (t .to) v x y z
 put-same c ws t v within was x y z = grind (arith, tells, within, was)

@@ -1,7 +1,7 @@
 -- What a board book means.
 use Prim.Native.Nat.{ℕ}
 use Rattle.std.specs.Of.Vec.{vec-items, vec-len}
-use Rattle.marks.specs.MarkBoards.{board-counts, board-marks}
+use Rattle.marks.specs.MarkBoards.{counts-kept, marks-kept}
 use Rattle.book.specs.Meaning.{Meaning}
 use Rattle.board_book.specs.TieBits.{possible, ties-in}
 use Rattle.board_book.specs.declared.board.BoardBook.{BoardBook}
@@ -9,10 +9,10 @@ use Rattle.board_book.specs.declared.board.BoardBook.{BoardBook}
 -- its counts and mark facts, the ties whose bits are set, and room for every possible tie
 abbrev pub board-meaning : BoardBook → Meaning
 board-meaning b = record {
-  counts = board-counts (b .marks);
-  capacity = possible (board-counts (b .marks));
-  tied = ties-in (board-counts (b .marks)) (vec-items (b .words));
-  marked = board-marks (b .marks);
+  counts = counts-kept (b .marks);
+  capacity = possible (counts-kept (b .marks));
+  tied = ties-in (counts-kept (b .marks)) (vec-items (b .words));
+  marked = marks-kept (b .marks);
 }
 
 -- how many words it holds

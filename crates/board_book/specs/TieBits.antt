@@ -3,7 +3,7 @@ use mathlib.Core.Path.{_≡_}
 use mathlib.Core.Bool.{Bool, false}
 use mathlib.Core.List.{List}
 use Prim.Native.Nat.{ℕ, _+_, _*_, _≤_}
-use Rattle.bits.specs.Bits.{lit}
+use Rattle.bits.specs.Bits.{bit-set}
 use Rattle.book.specs.Meaning.{count3, inside3}
 use Rattle.book.specs.declared.counts.Counts.{Counts}
 
@@ -17,7 +17,7 @@ possible c = c .labels * c .names * c .names
 
 -- the ties that the words tell, within the counts
 abbrev pub ties-in : Counts → List ℕ → ℕ → ℕ → ℕ → Bool
-ties-in c ws = inside3 c (λ l f t. lit ws (place (c .names) l f t))
+ties-in c ws = inside3 c (λ l f t. bit-set ws (place (c .names) l f t))
 
 -- as many as are told
 abbrev pub CountedTies : Counts → List ℕ → ℕ → Type 0
@@ -25,4 +25,4 @@ CountedTies c ws used = used ≡ count3 (c .labels) (c .names) (ties-in c ws)
 
 -- no other bit is set
 abbrev pub Clear : Counts → List ℕ → Type 0
-Clear c ws = (i : ℕ) → possible c ≤ i → lit ws i ≡ false
+Clear c ws = (i : ℕ) → possible c ≤ i → bit-set ws i ≡ false

@@ -4,7 +4,7 @@ ghost use mathlib.Core.Bool.{true, false};
 ghost use Rattle.book.specs.Calls.{entering, entered, striking, struck, marking, «marked-as»};
 ghost use Rattle.board_book.specs.Boards.{«board-meaning», «words-held»};
 use crate::board::BoardBook;
-use bits::rows::is_lit;
+use bits::rows::is_set;
 use book::counts::Counts;
 use book::faces::Keeping;
 use book::faces::Reading;
@@ -31,7 +31,7 @@ pub impl Reading for BoardBook as BoardReading {
 
     fn has_tie(&self, tie: Tie) -> Result<bool, RangeRefusal> {
         self.counts().check_tie(tie)?;
-        Ok(is_lit(self.words.as_slice(), self.place(tie)))
+        Ok(is_set(self.words.as_slice(), self.place(tie)))
     }
 
     fn has_mark(&self, mark: u8, name: u8) -> Result<bool, RangeRefusal> {

@@ -2,6 +2,6 @@
 pub mod board;
 pub mod keeping;
 pub mod making;
+mod places;
 pub mod refusal;
 mod seeking;
-mod turning;

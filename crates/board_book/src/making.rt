@@ -5,10 +5,10 @@ ghost use Prim.Native.Nat.{ℕ, _≤_, _<_, _*_};
 ghost use Rattle.std.specs.Of.Vec.{vec-items, vec-len};
 ghost use Rattle.std.specs.Orderings.{Decides};
 ghost use Rattle.std.specs.Results.{isOk};
-ghost use Rattle.bits.specs.Bits.{lit};
+ghost use Rattle.bits.specs.Bits.{bit-set};
 ghost use Rattle.book.specs.Limits.{Within};
 ghost use Rattle.board_book.specs.TieBits.{place, possible};
-ghost use Rattle.board_book.specs.Making.{fitting, fitted, «board-opened»};
+ghost use Rattle.board_book.specs.Making.{fitting, fitted, needed, «board-opened»};
 ghost use Rattle.board_book.specs.Boards.{«board-meaning», «words-held»};
 use crate::board::BoardBook;
 use crate::refusal::BoardRefusal;
@@ -22,11 +22,7 @@ fn fitted_counts(counts: Counts, words: usize) -> Counts
 {
     match BoardBook::check(counts, words) {
         Ok(()) => counts,
-        Err(_) => Counts {
-            names: 1,
-            labels: 0,
-            marks: 0,
-        },
+        Err(_) => Counts::LEAST,
     }
 }
 
@@ -37,11 +33,18 @@ impl BoardBook {
         ensures fits { λ r. ⌜ Decides (isOk r) (Within counts × (possible counts ≤ words * 64)) ⌝ }
     {
         counts.check()?;
-        let names = counts.names as usize;
-        if words < (counts.labels as usize * names * names).div_ceil(64) {
+        if words < BoardBook::words_needed(counts) {
             return Err(BoardRefusal::FewWords);
         }
         Ok(())
+    }
+
+    // How many words a board of these counts needs.
+    pub fn words_needed(counts: Counts) -> usize
+        ensures { λ r. ⌜ r ≡ needed counts ⌝ }
+    {
+        let names = counts.names as usize;
+        (counts.labels as usize * names * names).div_ceil(64)
     }
 
     // A book without ties and mark facts over the words, which are cleared; of one name, no label and
@@ -63,8 +66,8 @@ impl BoardBook {
     // Takes the book apart and gives the words back.
     pub fn into_words(self) -> Vec<u64>
         ensures long { λ r. ⌜ vec-len r ≡ words-held self ⌝ }
-        ensures ties { λ r. ⌜ ((l f t : ℕ) → l < board-meaning self .counts .labels → f < board-meaning self .counts .names → t < board-meaning self .counts .names → lit (vec-items r) (place (board-meaning self .counts .names) l f t) ≡ board-meaning self .tied l f t) ⌝ }
-        ensures rest { λ r. ⌜ ((i : ℕ) → possible (board-meaning self .counts) ≤ i → lit (vec-items r) i ≡ false) ⌝ }
+        ensures ties { λ r. ⌜ ((l f t : ℕ) → l < board-meaning self .counts .labels → f < board-meaning self .counts .names → t < board-meaning self .counts .names → bit-set (vec-items r) (place (board-meaning self .counts .names) l f t) ≡ board-meaning self .tied l f t) ⌝ }
+        ensures rest { λ r. ⌜ ((i : ℕ) → possible (board-meaning self .counts) ≤ i → bit-set (vec-items r) i ≡ false) ⌝ }
     {
         let BoardBook {
             marks: _,

@@ -3,10 +3,11 @@ ghost use mathlib.Core.Path.{_≡_};
 ghost use Rattle.board_book.specs.Making.{«board-number»};
 ghost use Rattle.board_book.specs.declared.refusal.BoardRefusal.the-variants.{Counts as CountsRefused};
 use book::counts::CountRefusal;
+use book::counts::CountRefusalDebug;
 use book::counts::CountRefusalPartialEq;
 
 // The refusals of a check.
-#[derive(Clone, Copy, PartialEq, Eq)]
+#[derive(Clone, Copy, Debug, PartialEq, Eq)]
 pub enum BoardRefusal {
     // 20: a count is outside its limits
     Counts(CountRefusal),

@@ -16,15 +16,15 @@ use Rattle.book.specs.declared.refusal.RangeRefusal.the-variants.{OutOfRange}
 use Rattle.book.specs.declared.refusal.EnterRefusal.{EnterRefusal}
 use Rattle.book.specs.declared.refusal.EnterRefusal.the-variants.{Range, Full}
 use Rattle.book.specs.Ties.{toward}
-use Rattle.book.specs.Meaning.{Meaning, ties-of, at3, at2, with-ties, with-marks}
+use Rattle.book.specs.Meaning.{Meaning, tie-range, mark-range, ties-of, at3, at2, with-ties, with-marks}
 
 -- each number of the tie is below its count
 abbrev pub tie-within : Counts → Tie → Bool
-tie-within c t = ltb (t .label) (c .labels) && ltb (t .from) (c .names) && ltb (t .to) (c .names)
+tie-within c t = tie-range c (t .label) (t .from) (t .to)
 
 -- both numbers of the mark fact are below their counts
 abbrev pub mark-within : Counts → ℕ → ℕ → Bool
-mark-within c k n = ltb k (c .marks) && ltb n (c .names)
+mark-within c k n = mark-range c k n
 
 -- the label and the name are below their counts, and `at` is not above the names
 abbrev pub next-within : Counts → ℕ → ℕ → ℕ → Bool

@@ -69,10 +69,17 @@ at3 p l f t v x y z = cond (eqb l x && eqb f y && eqb t z) v (p x y z)
 abbrev pub at2 : (ℕ → ℕ → Bool) → ℕ → ℕ → Bool → ℕ → ℕ → Bool
 at2 p k n v x y = cond (eqb k x && eqb n y) v (p x y)
 
+-- the numbers of a tie, or of a mark fact, are below their counts
+abbrev pub tie-range : Counts → ℕ → ℕ → ℕ → Bool
+tie-range c l f t = ltb l (c .labels) && ltb f (c .names) && ltb t (c .names)
+
+abbrev pub mark-range : Counts → ℕ → ℕ → Bool
+mark-range c k n = ltb k (c .marks) && ltb n (c .names)
+
 -- p within the counts of labels and names, nothing outside them
 abbrev pub inside3 : Counts → (ℕ → ℕ → ℕ → Bool) → ℕ → ℕ → ℕ → Bool
-inside3 c p l f t = (ltb l (c .labels) && ltb f (c .names) && ltb t (c .names)) && p l f t
+inside3 c p l f t = tie-range c l f t && p l f t
 
 -- p within the counts of marks and names, nothing outside them
 abbrev pub inside2 : Counts → (ℕ → ℕ → Bool) → ℕ → ℕ → Bool
-inside2 c p k n = (ltb k (c .marks) && ltb n (c .names)) && p k n
+inside2 c p k n = mark-range c k n && p k n

@@ -35,6 +35,12 @@ impl Counts {
     pub const MOST_LABELS: u8 = 16;
 
     pub const MOST_MARKS: u8 = 16;
+    // one name, no label and no mark
+    pub const LEAST: Counts = Counts {
+        names: 1,
+        labels: 0,
+        marks: 0,
+    };
 
     // Whether each count is within its limits: 1 to 64 names, 0 to 16 labels, 0 to 16 marks.
     pub fn check(self) -> Result<(), CountRefusal>
@@ -54,11 +60,7 @@ impl Counts {
     {
         match self.check() {
             Ok(()) => self,
-            Err(_) => Counts {
-                names: 1,
-                labels: 0,
-                marks: 0,
-            },
+            Err(_) => Counts::LEAST,
         }
     }
 }

@@ -1,8 +1,6 @@
 // Ties.
 ghost use mathlib.Core.Path.{_≡_};
-ghost use mathlib.Core.Bool.{_&&_};
-ghost use lib.Dec.{eqb};
-ghost use Rattle.book.specs.Ties.{toward};
+ghost use Rattle.book.specs.Ties.{same-tie, toward};
 use rows::Sameness;
 
 // A tie with a label from a name to a name, perhaps the same one; all three by number.
@@ -15,7 +13,7 @@ pub struct Tie {
 
 // Ties are the same when their label, their from-name and their to-name are.
 pub impl Sameness for Tie as TieSameness {
-    ghost same = { λ x y. eqb (x .label) (y .label) && eqb (x .from) (y .from) && eqb (x .to) (y .to) };
+    ghost same = { same-tie };
 
     fn is_same(&self, other: &Tie) -> bool {
         self.label == other.label && self.from == other.from && self.to == other.to

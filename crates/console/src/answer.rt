@@ -21,7 +21,8 @@ pub fn say_reply(
 ) -> Result<(), AllocError> {
     match reply {
         Reply::Done => say(out, b"ok"),
-        Reply::Refused(number) => {
+        Reply::Refused(refusal) => {
+            let number = refusal.number();
             let text = format!(heap, "refused={number}")?;
             say(out, text.as_bytes())
         }

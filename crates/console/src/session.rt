@@ -8,7 +8,6 @@ use crate::resolve::resolve;
 use board_book::board::BoardBook;
 use board_book::keeping::BoardKeeping;
 use board_book::keeping::BoardReading;
-use book::counts::Counts;
 use book::faces::Keeping;
 use book::tie::Tie;
 use list_book::ListBook;
@@ -132,7 +131,7 @@ impl Session {
         match self.next.roll() {
             Ok(roll) => {
                 let counts = roll.counts();
-                let words = vec![in self.heap; 0u64; words_for(counts)]?;
+                let words = vec![in self.heap; 0u64; BoardBook::words_needed(counts)]?;
                 self.open = Open::Board(self.next.copy()?, BoardBook::new(counts, words));
                 say(out, b"ok")
             }
@@ -148,12 +147,6 @@ impl Session {
             Open::Board(texts, book) => ask_book(self.heap, texts, book, question, out),
         }
     }
-}
-
-// How many words a board of these counts needs.
-fn words_for(counts: Counts) -> usize {
-    let names = usize::from(counts.names);
-    (usize::from(counts.labels) * names * names + 63) / 64
 }
 
 // Puts a question to a book of any make, its words read by the roll of these texts.

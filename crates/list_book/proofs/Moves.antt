@@ -22,13 +22,14 @@ use Rattle.rows.specs.Rows.{Absent, FirstAt, Grew}
 use Rattle.book.specs.declared.counts.Counts.{Counts}
 use Rattle.book.specs.declared.tie.Tie.{Tie}
 use Rattle.book.specs.Meaning.{at3, count3, ties-of}
-use Rattle.marks.specs.MarkBoards.{board-counts}
+use Rattle.marks.specs.MarkBoards.{counts-kept}
 use Rattle.book.specs.Calls.{tie-within, ranged}
 use Rattle.book_laws.proofs.Counting.{count3-put, count3-cut}
 use Rattle.book_laws.proofs.Moves.{fun-ext3}
 use Rattle.marks.proofs.MarkMoves.{ranged-ok}
 use Rattle.list_book.specs.declared.ListBook.{ListBook}
-use Rattle.list_book.specs.Listed.{is-tie, same, times, listed, Once, Inside, Counted, HoldsTies}
+use Rattle.book.specs.Ties.{is-tie, same-tie}
+use Rattle.list_book.specs.Listed.{times, listed, Once, Inside, Counted, HoldsTies}
 use Rattle.list_book.specs.ListBooks.{list-meaning, row-ties}
 use Rattle.list_book.proofs.Times.{times-push, times-moved, absent-times, found-times, stands-times, place-of, two-times}
 
@@ -91,7 +92,7 @@ module _ (c : Counts) (xs : List Tie) (t : Tie) (once : Once xs) (ys : List Tie)
 pub tie-in : (c d : Counts) (t : Tie) → d ≡ c → Ok tt ≡ ranged (tie-within d t) → tie-within c t ≡ true
 tie-in c d t e h = subst (λ x. tie-within x t ≡ true) e (ranged-ok (tie-within d t) tt h)
 
-pub ties-stand : (b : ListBook) → Stand (board-counts (b .marks)) (row-ties b) (b .used)
+pub ties-stand : (b : ListBook) → Stand (counts-kept (b .marks)) (row-ties b) (b .used)
 ties-stand b = (b .once, (b .inside, (b .counted, tt)))
 
 -- as many as are used
@@ -136,11 +137,11 @@ module _ (b : ListBook) (t : Tie) (rs ws : List Tie) (lent : rs ≡ vec-items (b
   pub rest-now : drop (b .limit) (vec-items row-now) ≡ drop (b .limit) (vec-items (b .row))
   rest-now = back-of (b .row) (b .limit) rs ws lent (b .room) (long ∙ part-long)
 
-  pub none-lent : Absent same (take (b .used) part) (length (take (b .used) part)) t → times (row-ties b) (t .label) (t .from) (t .to) ≡ 0
-  none-lent h = absent-times (row-ties b) t (subst (λ ys. Absent same ys (length ys) t) part-is h)
+  pub none-lent : Absent same-tie (take (b .used) part) (length (take (b .used) part)) t → times (row-ties b) (t .label) (t .from) (t .to) ≡ 0
+  none-lent h = absent-times (row-ties b) t (subst (λ ys. Absent same-tie ys (length ys) t) part-is h)
 
-  pub some-lent : (i : ℕ) → FirstAt same (take (b .used) part) t i → 0 < times (row-ties b) (t .label) (t .from) (t .to)
-  some-lent i h = found-times (row-ties b) t i (subst (λ ys. FirstAt same ys t i) part-is h)
+  pub some-lent : (i : ℕ) → FirstAt same-tie (take (b .used) part) t i → 0 < times (row-ties b) (t .label) (t .from) (t .to)
+  some-lent i h = found-times (row-ties b) t i (subst (λ ys. FirstAt same-tie ys t i) part-is h)
 
   pub same-front : ws ≡ part → take (b .used) (vec-items row-now) ≡ row-ties b
   same-front e = front-now (b .used) (b .front) ∙ ap (take (b .used)) e ∙ part-is
@@ -154,11 +155,11 @@ module _ (b : ListBook) (t : Tie) (rs ws : List Tie) (lent : rs ≡ vec-items (b
   pub full-lent : length part ≤ b .used → b .limit ≤ b .used
   full-lent h = omega (arith, h, part-long)
 
-like : (x t : Tie) (l f u : ℕ) → same x t ≡ true → is-tie x l f u ≡ is-tie t l f u
+like : (x t : Tie) (l f u : ℕ) → same-tie x t ≡ true → is-tie x l f u ≡ is-tie t l f u
 like x t l f u e = grind (arith, tells, e)
 
 -- the tie at i was written over by the last one, y
-module _ (b : ListBook) (t y : Tie) (i : ℕ) (found : FirstAt same (row-ties b) t i) (last : y ≡ getD (vec-items (b .row)) (b .used - 1) y) where
+module _ (b : ListBook) (t y : Tie) (i : ℕ) (found : FirstAt same-tie (row-ties b) t i) (last : y ≡ getD (vec-items (b .row)) (b .used - 1) y) where
   abbrev pub left-over : List Tie
   left-over = take (b .used - 1) (set (vec-items (b .row)) i y)
 
@@ -173,7 +174,7 @@ module _ (b : ListBook) (t y : Tie) (i : ℕ) (found : FirstAt same (row-ties b)
       let moved = times-moved xs i (b .used - 1) y y (omega (arith, i-in)) (omega (arith, i-in, long, b .front, b .room)) (sym last) l f u in
       let here = found .1 y in
       let at = getD-take (b .used) xs i y i-in in
-      let alike = like (getD xs i y) t l f u (subst (λ x. same x t ≡ true) at here) in
+      let alike = like (getD xs i y) t l f u (subst (λ x. same-tie x t ≡ true) at here) in
       subst (λ v. times left-over l f u + cond v 1 0 ≡ times (row-ties b) l f u) alike
       (subst (λ k. times left-over l f u + cond (is-tie (getD xs i y) l f u) 1 0 ≡ times (take k xs) l f u) n moved)
 
@@ -182,13 +183,13 @@ abbrev tie : ℕ → ℕ → ℕ → Tie
 tie l f t = record { label = l; from = f; to = t }
 
 -- ties that are the same are equal
-pub same-equal : (x y : Tie) → same x y ≡ true → x ≡ y
+pub same-equal : (x y : Tie) → same-tie x y ≡ true → x ≡ y
 same-equal x y e = ap (λ n. tie n (x .from) (x .to)) (eqs .0) ∙ ap (λ n. tie (y .label) n (x .to)) (eqs .1) ∙ ap (λ n. tie (y .label) (y .from) n) (eqs .2)
   where
     eqs : (x .label ≡ y .label) × (x .from ≡ y .from) × (x .to ≡ y .to)
     eqs = (grind (arith, tells, e), grind (arith, tells, e), grind (arith, tells, e))
 
-pub same-refl : (x : Tie) → same x x ≡ true
+pub same-refl : (x : Tie) → same-tie x x ≡ true
 same-refl x = grind (arith, tells)
 
 -- the row when the book is taken apart
@@ -198,7 +199,7 @@ holds-ties b = record {
   each = λ k d lt.
       let in′ : k < b .used = omega (arith, count b, lt) in
       let at = getD-take (b .used) (vec-items (b .row)) k d in′ in
-      let here = subst (λ x. same x (getD (vec-items (b .row)) k d) ≡ true) (sym at) (same-refl (getD (vec-items (b .row)) k d)) in
+      let here = subst (λ x. same-tie x (getD (vec-items (b .row)) k d) ≡ true) (sym at) (same-refl (getD (vec-items (b .row)) k d)) in
       let some = stands-times (row-ties b) (getD (vec-items (b .row)) k d) k d (omega (arith, ties-long b)) here in
       grind (arith, tells, some);
   every = λ t on.
@@ -218,5 +219,5 @@ holds-ties b = record {
         let t = getD xs k d in
         let at-j = getD-take (b .used) xs j d (omega arith) ∙ e in
         let at-k = getD-take (b .used) xs k d k-in in
-        let two = two-times (row-ties b) t j k d lt (omega (arith, ties-long b)) (subst (λ x. same x t ≡ true) (sym at-j) (same-refl t)) (subst (λ x. same x t ≡ true) (sym at-k) (same-refl t)) in
+        let two = two-times (row-ties b) t j k d lt (omega (arith, ties-long b)) (subst (λ x. same-tie x t ≡ true) (sym at-j) (same-refl t)) (subst (λ x. same-tie x t ≡ true) (sym at-k) (same-refl t)) in
         omega (arith, two, b .once (t .label) (t .from) (t .to))

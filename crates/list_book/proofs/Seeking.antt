@@ -15,10 +15,10 @@ use Rattle.book.specs.declared.counts.Counts.{Counts}
 use Rattle.book.specs.declared.tie.Tie.{Tie}
 use Rattle.book.specs.declared.tie.Direction.{Direction}
 use Rattle.book.specs.declared.tie.Direction.the-variants.{Forward, Backward}
-use Rattle.book.specs.Ties.{toward}
+use Rattle.book.specs.Ties.{same-tie, toward}
 use Rattle.book.specs.Calls.{next-within, ranged}
 use Rattle.marks.proofs.MarkMoves.{ranged-ok}
-use Rattle.list_book.specs.Listed.{same, listed, Inside}
+use Rattle.list_book.specs.Listed.{listed, Inside}
 use Rattle.list_book.proofs.Times.{times-nil, times-push}
 
 -- a tie of the list joins s to y
@@ -34,19 +34,19 @@ pub lowest-nil : (l : ℕ) (d : Direction) (s at names : ℕ) → LowestSoFar []
 lowest-nil l d s at names = (omega arith, (λ lt. absurd (omega arith)), λ k le lt. ap (ltb 0) (times-nil _ _ _))
 
 -- a tie joins s to one name at most
-one-end : (x : Tie) (l : ℕ) (d : Direction) (s y k : ℕ) → same x (toward l d s y) ≡ true → (k ≡ y → ⊥) → same x (toward l d s k) ≡ false
+one-end : (x : Tie) (l : ℕ) (d : Direction) (s y k : ℕ) → same-tie x (toward l d s y) ≡ true → (k ≡ y → ⊥) → same-tie x (toward l d s k) ≡ false
 one-end x l Forward s y k there ne = grind (arith, tells, there, ne)
 one-end x l Backward s y k there ne = grind (arith, tells, there, ne)
 
 module _ (xs : List Tie) (x : Tie) (l : ℕ) (d : Direction) (s at names low : ℕ) (so-far : LowestSoFar xs l d s at names low) where
-  more : (k : ℕ) → joined (xs ++ x ∷ []) l d s k ≡ (joined xs l d s k || same x (toward l d s k))
+  more : (k : ℕ) → joined (xs ++ x ∷ []) l d s k ≡ (joined xs l d s k || same-tie x (toward l d s k))
   more k = grind (arith, tells, times-push xs x (toward l d s k .label) (toward l d s k .from) (toward l d s k .to))
 
   kept : (k : ℕ) → joined xs l d s k ≡ true → joined (xs ++ x ∷ []) l d s k ≡ true
   kept k e = grind (arith, more k, e)
 
   -- the tie joins s to none, or to one that is not sought
-  lowest-same : ((k : ℕ) → at ≤ k → k < low → same x (toward l d s k) ≡ false) → LowestSoFar (xs ++ x ∷ []) l d s at names low
+  lowest-same : ((k : ℕ) → at ≤ k → k < low → same-tie x (toward l d s k) ≡ false) → LowestSoFar (xs ++ x ∷ []) l d s at names low
   lowest-same other = (
     so-far .0,
     (λ lt. (so-far .1 lt .0, kept low (so-far .1 lt .1))),
@@ -54,18 +54,18 @@ module _ (xs : List Tie) (x : Tie) (l : ℕ) (d : Direction) (s at names low : �
   )
 
   -- the tie joins s to a lower one
-  lowest-less : (y : ℕ) → same x (toward l d s y) ≡ true → at ≤ y → y < low → LowestSoFar (xs ++ x ∷ []) l d s at names y
+  lowest-less : (y : ℕ) → same-tie x (toward l d s y) ≡ true → at ≤ y → y < low → LowestSoFar (xs ++ x ∷ []) l d s at names y
   lowest-less y there le lt = (
     omega (arith, so-far .0),
     (λ _. (le, grind (arith, more y, there))),
     λ k le′ lt′. grind (arith, more k, apart k lt′, so-far .2 k le′ (omega arith)),
   )
     where
-      apart : (k : ℕ) → k < y → same x (toward l d s k) ≡ false
+      apart : (k : ℕ) → k < y → same-tie x (toward l d s k) ≡ false
       apart k lt′ = one-end x l d s y k there (λ e. omega (arith, e))
 
   -- the tie joins s to one that is not lower
-  lowest-more : (y : ℕ) → same x (toward l d s y) ≡ true → (at ≤ y → y < low → ⊥) → LowestSoFar (xs ++ x ∷ []) l d s at names low
+  lowest-more : (y : ℕ) → same-tie x (toward l d s y) ≡ true → (at ≤ y → y < low → ⊥) → LowestSoFar (xs ++ x ∷ []) l d s at names low
   lowest-more y there not-less = lowest-same (λ k le lt. one-end x l d s y k there (λ e. not-less (subst (λ n. at ≤ n) e le) (subst (λ n. n < low) e lt)))
 
 -- one turn: what stands at i comes to what stood before it
@@ -74,7 +74,7 @@ module _ (xs : List Tie) (i : ℕ) (x : Tie) (lt : i < length xs) (l : ℕ) (d :
   onward h = subst (λ ys. LowestSoFar ys l d s at names new) (sym (take-more xs i x lt)) h
 
   abbrev here : ℕ → Bool
-  here k = same (getD xs i x) (toward l d s k)
+  here k = same-tie (getD xs i x) (toward l d s k)
 
   pub turn-none : new ≡ low → ((k : ℕ) → here k ≡ false) → LowestSoFar (take (i + 1) xs) l d s at names new
   turn-none e none = onward (subst (λ n. LowestSoFar (take i xs ++ getD xs i x ∷ []) l d s at names n) (sym e) (lowest-same (take i xs) (getD xs i x) l d s at names low so-far (λ k _ _. none k)))

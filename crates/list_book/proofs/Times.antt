@@ -16,7 +16,8 @@ use Rattle.std.specs.declared.option.Option.the-variants.{Some, None}
 use Rattle.std.specs.shelf.Lists.{sumBy, countBy}
 use Rattle.rows.specs.Rows.{Absent, FirstAt, Finds}
 use Rattle.book.specs.declared.tie.Tie.{Tie}
-use Rattle.list_book.specs.Listed.{is-tie, same, times, listed}
+use Rattle.book.specs.Ties.{is-tie, same-tie}
+use Rattle.list_book.specs.Listed.{times, listed}
 
 module _ {X : Type 0} (p : X → Bool) where
   countBy-none : (xs : List X) → ((k : ℕ) (d : X) → k < length xs → p (getD xs k d) ≡ false) → countBy p xs ≡ 0
@@ -85,30 +86,30 @@ module _ (xs : List Tie) (i m : ℕ) (y d : Tie) (i-in : i < m + 1) (m-in : m < 
       let read = ap g (getD-take (m + 1) xs i d i-in) in
       omega (arith, more, top, moved, same-list, read)
 
-pub absent-times : (xs : List Tie) (t : Tie) → Absent same xs (length xs) t → times xs (t .label) (t .from) (t .to) ≡ 0
+pub absent-times : (xs : List Tie) (t : Tie) → Absent same-tie xs (length xs) t → times xs (t .label) (t .from) (t .to) ≡ 0
 unfolding times
-absent-times xs t h = countBy-none (λ x. same x t) xs h
+absent-times xs t h = countBy-none (λ x. same-tie x t) xs h
 
 -- a tie that stands at a place
-pub stands-times : (xs : List Tie) (t : Tie) (i : ℕ) (d : Tie) → i < length xs → same (getD xs i d) t ≡ true → 0 < times xs (t .label) (t .from) (t .to)
+pub stands-times : (xs : List Tie) (t : Tie) (i : ℕ) (d : Tie) → i < length xs → same-tie (getD xs i d) t ≡ true → 0 < times xs (t .label) (t .from) (t .to)
 unfolding times
 stands-times xs t i d lt at =
-    let here : _≡_ {A = ℕ} (cond (same (getD xs i d) t) 1 0) 1 = ap (λ b. cond b 1 0) at in
-    omega (arith, here, getD-le-sumBy (λ x. cond (same x t) 1 0) xs i d lt)
+    let here : _≡_ {A = ℕ} (cond (same-tie (getD xs i d) t) 1 0) 1 = ap (λ b. cond b 1 0) at in
+    omega (arith, here, getD-le-sumBy (λ x. cond (same-tie x t) 1 0) xs i d lt)
 
-pub found-times : (xs : List Tie) (t : Tie) (i : ℕ) → FirstAt same xs t i → 0 < times xs (t .label) (t .from) (t .to)
+pub found-times : (xs : List Tie) (t : Tie) (i : ℕ) → FirstAt same-tie xs t i → 0 < times xs (t .label) (t .from) (t .to)
 found-times xs t i (lt, at, before) = stands-times xs t i t lt (at t)
 
-pub find-tells : (xs : List Tie) (t : Tie) (r : Option ℕ) → Finds same xs t r → isSome r ≡ listed xs (t .label) (t .from) (t .to)
+pub find-tells : (xs : List Tie) (t : Tie) (r : Option ℕ) → Finds same-tie xs t r → isSome r ≡ listed xs (t .label) (t .from) (t .to)
 find-tells xs t None h = grind (arith, tells, absent-times xs t h)
 find-tells xs t (Some i) h = grind (arith, tells, found-times xs t i h)
 
 -- the place of a tie that is listed
-pub place-of : (xs : List Tie) (t : Tie) → 0 < times xs (t .label) (t .from) (t .to) → (k : ℕ) × (k < length xs) × ((d : Tie) → same (getD xs k d) t ≡ true)
+pub place-of : (xs : List Tie) (t : Tie) → 0 < times xs (t .label) (t .from) (t .to) → (k : ℕ) × (k < length xs) × ((d : Tie) → same-tie (getD xs k d) t ≡ true)
 unfolding times
-place-of xs t h = countBy-some (λ x. same x t) xs h
+place-of xs t h = countBy-some (λ x. same-tie x t) xs h
 
 -- ties at two places are listed twice
-pub two-times : (xs : List Tie) (t : Tie) (j k : ℕ) (d : Tie) → j < k → k < length xs → same (getD xs j d) t ≡ true → same (getD xs k d) t ≡ true → 2 ≤ times xs (t .label) (t .from) (t .to)
+pub two-times : (xs : List Tie) (t : Tie) (j k : ℕ) (d : Tie) → j < k → k < length xs → same-tie (getD xs j d) t ≡ true → same-tie (getD xs k d) t ≡ true → 2 ≤ times xs (t .label) (t .from) (t .to)
 unfolding times
-two-times xs t j k d lt in′ a b = countBy-two (λ x. same x t) xs j k d lt in′ a b
+two-times xs t j k d lt in′ a b = countBy-two (λ x. same-tie x t) xs j k d lt in′ a b

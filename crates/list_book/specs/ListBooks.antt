@@ -7,7 +7,7 @@ use lib.ListN.{take, drop}
 use Rattle.std.specs.Of.Vec.{vec-items, vec-len}
 use Rattle.book.specs.Limits.{within, least}
 use Rattle.book.specs.Meaning.{Meaning, opened}
-use Rattle.marks.specs.MarkBoards.{board-counts, board-marks}
+use Rattle.marks.specs.MarkBoards.{counts-kept, marks-kept}
 use Rattle.book.specs.declared.counts.Counts.{Counts}
 use Rattle.book.specs.declared.tie.Tie.{Tie}
 use Rattle.list_book.specs.Listed.{listed}
@@ -20,10 +20,10 @@ row-ties b = take (b .used) (vec-items (b .row))
 -- what it means
 abbrev pub list-meaning : ListBook → Meaning
 list-meaning b = record {
-  counts = board-counts (b .marks);
+  counts = counts-kept (b .marks);
   capacity = b .limit;
   tied = listed (row-ties b);
-  marked = board-marks (b .marks);
+  marked = marks-kept (b .marks);
 }
 
 -- the meaning of a book that was made with these counts over a row of n places

@@ -1,23 +1,16 @@
 -- Ties that stand in a list.
 use mathlib.Core.Path.{_≡_}
-use mathlib.Core.Bool.{Bool, true, _&&_}
+use mathlib.Core.Bool.{Bool, true}
 use mathlib.Core.List.{List}
 use Prim.Native.Nat.{ℕ, _<_, _≤_}
-use lib.Dec.{eqb, ltb}
+use lib.Dec.{ltb}
 use lib.ListN.{length, getD}
 use Rattle.std.specs.shelf.Lists.{countBy}
 use Rattle.book.specs.Meaning.{Meaning, count3, inside3, ties-of}
 use Rattle.book.specs.Calls.{has}
+use Rattle.book.specs.Ties.{is-tie}
 use Rattle.book.specs.declared.counts.Counts.{Counts}
 use Rattle.book.specs.declared.tie.Tie.{Tie}
-
--- x is the tie of the label l from f to t
-abbrev pub is-tie : Tie → ℕ → ℕ → ℕ → Bool
-is-tie x l f t = eqb (x .label) l && eqb (x .from) f && eqb (x .to) t
-
--- two ties are the same
-abbrev pub same : Tie → Tie → Bool
-same x y = is-tie x (y .label) (y .from) (y .to)
 
 -- how often a tie stands in a list
 unfoldable pub times : List Tie → ℕ → ℕ → ℕ → ℕ

@@ -2,7 +2,7 @@
 ghost use Prim.Native.Nat.{_≤_};
 ghost use lib.ListN.{take};
 ghost use Rattle.std.specs.Of.Vec.{vec-items, vec-len};
-ghost use Rattle.marks.specs.MarkBoards.{board-counts};
+ghost use Rattle.marks.specs.MarkBoards.{counts-kept};
 ghost use Rattle.list_book.specs.Listed.{Once, Inside, Counted};
 use book::tie::Tie;
 use marks::mark_board::MarkBoard;
@@ -25,6 +25,6 @@ pub struct ListBook {
     ghost room: { limit ≤ vec-len row },
     ghost front: { used ≤ limit },
     ghost once: { Once (take used (vec-items row)) },
-    ghost inside: { Inside (board-counts marks) (take used (vec-items row)) },
-    ghost counted: { Counted (board-counts marks) (take used (vec-items row)) used },
+    ghost inside: { Inside (counts-kept marks) (take used (vec-items row)) },
+    ghost counted: { Counted (counts-kept marks) (take used (vec-items row)) used },
 }

@@ -3,8 +3,7 @@ ghost use mathlib.Core.Path.{_≡_};
 ghost use mathlib.Core.Bool.{true, false};
 ghost use Prim.Native.Nat.{ℕ};
 ghost use Rattle.std.specs.Options.{Cases as BySome};
-ghost use Rattle.book.specs.Ties.{toward};
-ghost use Rattle.list_book.specs.Listed.{same};
+ghost use Rattle.book.specs.Ties.{same-tie, toward};
 ghost use Rattle.list_book.specs.ListBooks.{list-meaning, row-ties};
 use crate::ListBook;
 use book::counts::Counts;
@@ -26,7 +25,7 @@ impl ListBook {
 
 // The name that the tie joins the name to along the direction, if it has the label and joins it to one.
 fn other_end(tie: Tie, label: u8, dir: Direction, name: u8) -> Option<u8>
-    ensures { λ r. ⌜ BySome r ((y : ℕ) → same tie (toward label dir name y) ≡ false) (λ y. same tie (toward label dir name y) ≡ true) ⌝ }
+    ensures { λ r. ⌜ BySome r ((y : ℕ) → same-tie tie (toward label dir name y) ≡ false) (λ y. same-tie tie (toward label dir name y) ≡ true) ⌝ }
 {
     let (near, far) = match dir {
         Direction::Forward => (tie.from, tie.to),

@@ -12,7 +12,7 @@ use Rattle.std.proofs.shelf.Tests.{cases-bool, ne-eqb, eq-eqb, cond-true}
 use Rattle.std.proofs.shelf.Bits.{mul-le}
 use Rattle.marks.specs.declared.mark_board.MarkBoard.{MarkBoard}
 use Rattle.book.specs.declared.counts.Counts.{Counts}
-use Rattle.bits.specs.Bits.{lit}
+use Rattle.bits.specs.Bits.{bit-set}
 use Rattle.std.specs.declared.result.Result.the-variants.{Ok}
 use Rattle.book.specs.Calls.{mark-within, ranged}
 use Rattle.book.specs.Limits.{made-counts}
@@ -64,42 +64,42 @@ unmarked-counted c n = sym (count2-none (c .marks) (c .names) _ (unmarked c n))
 
 -- the bit of one mark fact was turned over
 module _ (c : Counts) (ws vs : List ℕ) (k n : ℕ) (few : c .names ≤ 64) (within : mark-within c k n ≡ true)
-    (flipped : (j : ℕ) → lit vs j ≡ cond (eqb (64 * k + n) j) (not (lit ws j)) (lit ws j)) where
+    (flipped : (j : ℕ) → bit-set vs j ≡ cond (eqb (64 * k + n) j) (not (bit-set ws j)) (bit-set ws j)) where
   k-in : k < c .marks
   k-in = grind (arith, tells, within)
 
   n-in : n < c .names
   n-in = grind (arith, tells, within)
 
-  pub put : (v : Bool) → lit ws (64 * k + n) ≡ not v → (x y : ℕ) → marks-in c vs x y ≡ at2 (marks-in c ws) k n v x y
+  pub put : (v : Bool) → bit-set ws (64 * k + n) ≡ not v → (x y : ℕ) → marks-in c vs x y ≡ at2 (marks-in c ws) k n v x y
   put v was x y =
       ⊎-elim
       (λ (e : (eqb k x && eqb n y) ≡ true).
       let at : 64 * k + n ≡ 64 * x + y = grind (arith, tells, e) in
-      let now-lit : lit vs (64 * x + y) ≡ v =
-      subst (λ j. lit vs j ≡ v) at (flipped (64 * k + n) ∙ ap (λ b. cond b (not (lit ws (64 * k + n))) (lit ws (64 * k + n))) (eq-eqb (64 * k + n) (64 * k + n) refl) ∙ ap not was ∙ not-not v) in
+      let now-lit : bit-set vs (64 * x + y) ≡ v =
+      subst (λ j. bit-set vs j ≡ v) at (flipped (64 * k + n) ∙ ap (λ b. cond b (not (bit-set ws (64 * k + n))) (bit-set ws (64 * k + n))) (eq-eqb (64 * k + n) (64 * k + n) refl) ∙ ap not was ∙ not-not v) in
       grind (arith, tells, e, within, now-lit))
       (λ (e : (eqb k x && eqb n y) ≡ false).
       ⊎-elim
       (λ (w : (ltb x (c .marks) && ltb y (c .names)) ≡ true).
       let apart : 64 * k + n ≡ 64 * x + y → ⊥ = λ same-place. grind (arith, tells, e, w, few, n-in, same-place) in
-      let kept : lit vs (64 * x + y) ≡ lit ws (64 * x + y) =
-      flipped (64 * x + y) ∙ ap (λ b. cond b (not (lit ws (64 * x + y))) (lit ws (64 * x + y))) (ne-eqb (64 * k + n) (64 * x + y) apart) in
+      let kept : bit-set vs (64 * x + y) ≡ bit-set ws (64 * x + y) =
+      flipped (64 * x + y) ∙ ap (λ b. cond b (not (bit-set ws (64 * x + y))) (bit-set ws (64 * x + y))) (ne-eqb (64 * k + n) (64 * x + y) apart) in
       grind (arith, e, kept))
       (λ (w : (ltb x (c .marks) && ltb y (c .names)) ≡ false). grind (arith, e, w))
       (cases-bool (ltb x (c .marks) && ltb y (c .names))))
       (cases-bool (eqb k x && eqb n y))
 
-  was-told : (v : Bool) → lit ws (64 * k + n) ≡ v → marks-in c ws k n ≡ v
+  was-told : (v : Bool) → bit-set ws (64 * k + n) ≡ v → marks-in c ws k n ≡ v
   was-told v was = grind (arith, within, was)
 
-  pub put-counted : (used : ℕ) → CountedMarks c ws used → lit ws (64 * k + n) ≡ false → CountedMarks c vs (used + 1)
+  pub put-counted : (used : ℕ) → CountedMarks c ws used → bit-set ws (64 * k + n) ≡ false → CountedMarks c vs (used + 1)
   put-counted used counted was =
       let more = count2-put (c .marks) (c .names) (marks-in c ws) k n k-in n-in (was-told false was) in
       let same-count = ap (count2 (c .marks) (c .names)) (fun-ext2 (put true was)) in
       ap (λ i. i + 1) counted ∙ sym more ∙ sym same-count
 
-  pub cut-counted : (used : ℕ) → CountedMarks c ws used → lit ws (64 * k + n) ≡ true → (0 < used) × CountedMarks c vs (used - 1)
+  pub cut-counted : (used : ℕ) → CountedMarks c ws used → bit-set ws (64 * k + n) ≡ true → (0 < used) × CountedMarks c vs (used - 1)
   cut-counted used counted was =
       let less = count2-cut (c .marks) (c .names) (marks-in c ws) k n k-in n-in (was-told true was) in
       let same-count = ap (count2 (c .marks) (c .names)) (fun-ext2 (put false was)) in
@@ -107,13 +107,13 @@ module _ (c : Counts) (ws vs : List ℕ) (k n : ℕ) (few : c .names ≤ 64) (wi
       (omega (arith, now-count, less), omega (arith, now-count, less, same-count))
 
 -- the bit is as it should be
-pub put-same : (c : Counts) (ws : List ℕ) (k n : ℕ) (v : Bool) → mark-within c k n ≡ true → lit ws (64 * k + n) ≡ v → (x y : ℕ) → marks-in c ws x y ≡ at2 (marks-in c ws) k n v x y
+pub put-same : (c : Counts) (ws : List ℕ) (k n : ℕ) (v : Bool) → mark-within c k n ≡ true → bit-set ws (64 * k + n) ≡ v → (x y : ℕ) → marks-in c ws x y ≡ at2 (marks-in c ws) k n v x y
 put-same c ws k n v within was x y = grind (arith, tells, within, was)
 
 -- a mark board whose bit of the mark fact was turned over, in the form of its contract
-module _ (b : MarkBoard) (vs : List ℕ) (k n : ℕ) (v : Bool) (within : mark-within (b .counts) k n ≡ true) (was : lit (b .words) (64 * k + n) ≡ not v)
-    (long : length (b .words) ≡ 16) (turned : 64 * k + n < length (b .words) * 64 → (j : ℕ) → lit vs j ≡ cond (eqb (64 * k + n) j) (not (lit (b .words) j)) (lit (b .words) j)) where
-  flipped : (j : ℕ) → lit vs j ≡ cond (eqb (64 * k + n) j) (not (lit (b .words) j)) (lit (b .words) j)
+module _ (b : MarkBoard) (vs : List ℕ) (k n : ℕ) (v : Bool) (within : mark-within (b .counts) k n ≡ true) (was : bit-set (b .words) (64 * k + n) ≡ not v)
+    (long : length (b .words) ≡ 16) (turned : 64 * k + n < length (b .words) * 64 → (j : ℕ) → bit-set vs j ≡ cond (eqb (64 * k + n) j) (not (bit-set (b .words) j)) (bit-set (b .words) j)) where
+  flipped : (j : ℕ) → bit-set vs j ≡ cond (eqb (64 * k + n) j) (not (bit-set (b .words) j)) (bit-set (b .words) j)
   flipped =
       let k-in : k < b .counts .marks = grind (arith, tells, within) in
       let n-in : n < b .counts .names = grind (arith, tells, within) in

@@ -3,13 +3,13 @@ use mathlib.Core.Path.{_≡_}
 use mathlib.Core.Bool.{Bool}
 use mathlib.Core.List.{List}
 use Prim.Native.Nat.{ℕ, _+_, _*_}
-use Rattle.bits.specs.Bits.{lit}
+use Rattle.bits.specs.Bits.{bit-set}
 use Rattle.book.specs.Meaning.{inside2, count2}
 use Rattle.book.specs.declared.counts.Counts.{Counts}
 
 -- the mark facts that the words tell, within the counts
 abbrev pub marks-in : Counts → List ℕ → ℕ → ℕ → Bool
-marks-in c ws = inside2 c (λ k n. lit ws (64 * k + n))
+marks-in c ws = inside2 c (λ k n. bit-set ws (64 * k + n))
 
 -- as many as are told
 abbrev pub CountedMarks : Counts → List ℕ → ℕ → Type 0

@@ -6,9 +6,9 @@ use Rattle.book.specs.declared.counts.Counts.{Counts}
 use Rattle.marks.specs.declared.mark_board.MarkBoard.{MarkBoard}
 
 -- its counts
-abbrev pub board-counts : MarkBoard → Counts
-board-counts b = b .counts
+abbrev pub counts-kept : MarkBoard → Counts
+counts-kept b = b .counts
 
 -- its mark facts
-abbrev pub board-marks : MarkBoard → ℕ → ℕ → Bool
-board-marks b = marks-in (b .counts) (b .words)
+abbrev pub marks-kept : MarkBoard → ℕ → ℕ → Bool
+marks-kept b = marks-in (b .counts) (b .words)

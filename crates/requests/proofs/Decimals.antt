@@ -13,7 +13,7 @@ use Rattle.std.proofs.shelf.Lists.{take-more, take-all}
 use Rattle.std.specs.declared.option.Option.{Option}
 use Rattle.std.specs.declared.option.Option.the-variants.{Some, None}
 use Rattle.requests.specs.Decimal.{digits, value, written}
-use Rattle.requests.specs.Operands.{numbered}
+use Rattle.requests.specs.Operands.{behind-hash}
 
 value-more : (n : ℕ) (xs : List ℕ) (b : ℕ) → value n (xs ++ (b ∷ [])) ≡ 10 * value n xs + (b - 48)
 value-more n [] b = refl
@@ -57,7 +57,7 @@ module _ (w : List ℕ) (i : ℕ) (in-word : i < length w) where
       omega (arith, is, e, more)
 
 -- a number behind `#`
-pub behind-hash : (w : List ℕ) (n : ℕ) → 1 ≤ length w → getD w 0 0 ≡ 35 → length w ≤ n + 1 → written (take n (drop 1 w)) 255 ≡ numbered w
-behind-hash [] n some is long = absurd (omega arith)
-behind-hash (b ∷ bs) n some is long =
+pub hash-digits : (w : List ℕ) (n : ℕ) → 1 ≤ length w → getD w 0 0 ≡ 35 → length w ≤ n + 1 → written (take n (drop 1 w)) 255 ≡ behind-hash w
+hash-digits [] n some is long = absurd (omega arith)
+hash-digits (b ∷ bs) n some is long =
     ap (λ v. written v 255) (take-all n bs (omega arith)) ∙ sym (cond-true (eqb b 35) _ _ (eq-eqb b 35 is))

@@ -16,10 +16,10 @@ orElse None y = y
 orElse (Some n) y = Some n
 
 -- the number written behind `#`, byte 35, up to 255
-abbrev pub numbered : List ℕ → Option ℕ
-numbered [] = None
-numbered (b ∷ bs) = cond (eqb b 35) (written bs 255) None
+abbrev pub behind-hash : List ℕ → Option ℕ
+behind-hash [] = None
+behind-hash (b ∷ bs) = cond (eqb b 35) (written bs 255) None
 
 -- the number that an operand stands for: the number behind `#`, or the word's number in its list
 abbrev pub operand : Roll → Which → List ℕ → Option ℕ
-operand r l w = orElse (numbered w) (numberOf r l w)
+operand r l w = orElse (behind-hash w) (numberOf r l w)

@@ -7,7 +7,7 @@ use Rattle.std.specs.declared.result.Result.{Result}
 use Rattle.std.specs.declared.result.Result.the-variants.{Ok, Err}
 use Rattle.book.specs.declared.refusal.RangeRefusal.{RangeRefusal}
 use Rattle.book.specs.declared.refusal.EnterRefusal.{EnterRefusal}
-use Rattle.book.specs.Refusals.{range-number, enter-number}
+use Rattle.book.specs.declared.refusal.EnterRefusal.the-variants.{Range}
 use Rattle.book.specs.Meaning.{Meaning, ties-of, marks-of}
 use Rattle.book.specs.Calls.{TieTold, MarkTold, Next}
 use Rattle.runs.specs.Runs.{answer, after}
@@ -19,17 +19,17 @@ use Rattle.requests.specs.declared.request.Reply.the-variants.{Done, Refused, 
 -- the reply to an altering call, from its answer
 abbrev pub done : Result (Unit {0}) EnterRefusal → Reply
 done (Ok u) = Done
-done (Err e) = Refused (enter-number e)
+done (Err e) = Refused e
 
 -- the reply to a yes or no question, from its answer
 abbrev pub told : Result Bool RangeRefusal → Reply
 told (Ok b) = Told b
-told (Err e) = Refused (range-number e)
+told (Err e) = Refused (Range e)
 
 -- the reply to the question for a name, from its answer
 abbrev pub named : Result (Option ℕ) RangeRefusal → Reply
 named (Ok n) = Name n
-named (Err e) = Refused (range-number e)
+named (Err e) = Refused (Range e)
 
 -- what a request is replied
 abbrev pub Replies : Meaning → Request → Reply → Type 0
@@ -40,9 +40,9 @@ Replies m (AskNext l d s at) r = (a : Result (Option ℕ) RangeRefusal) × Next 
 Replies m AskTally r = r ≡ Tally (record { counts = m .counts; ties = ties-of m; marked = marks-of m; capacity = m .capacity })
 
 -- what the book means after it: only an altering call can alter it
-abbrev pub left : Meaning → Request → Meaning
-left m (Alter c) = after m c
-left m (HasTie t) = m
-left m (HasMark k n) = m
-left m (AskNext l d s at) = m
-left m AskTally = m
+abbrev pub meaning-after : Meaning → Request → Meaning
+meaning-after m (Alter c) = after m c
+meaning-after m (HasTie t) = m
+meaning-after m (HasMark k n) = m
+meaning-after m (AskNext l d s at) = m
+meaning-after m AskTally = m

@@ -1,6 +1,6 @@
 // The operands of a command: words of the roll, or numbers taken as they are.
 ghost use mathlib.Core.Path.{_≡_};
-ghost use Rattle.requests.specs.Operands.{numbered, operand};
+ghost use Rattle.requests.specs.Operands.{behind-hash, operand};
 ghost use Rattle.std.specs.Vec.{refused};
 ghost use Rattle.std.specs.Results.{okPart};
 use crate::number::byte_number;
@@ -9,7 +9,7 @@ use roll::roll::Roll;
 
 // The number that stands behind `#`, if the word is such a one.
 fn hash_number(word: &[u8]) -> Option<u8>
-    ensures { λ r. ⌜ r ≡ numbered (now (word .entry)) ⌝ }
+    ensures { λ r. ⌜ r ≡ behind-hash (now (word .entry)) ⌝ }
 {
     match word {
         [b'#', digits @ ..] => byte_number(digits),

@@ -1,8 +1,10 @@
 // What a book is asked at the console, and what it replies.
 ghost use mathlib.Core.Path.{_≡_};
-ghost use Rattle.requests.specs.Requests.{Replies, left};
+ghost use Rattle.requests.specs.Requests.{Replies, meaning-after};
 use book::counts::Counts;
 use book::faces::Keeping;
+use book::refusal::EnterRefusal;
+use book::refusal::RangeEnterRefusal;
 use book::tie::Direction;
 use book::tie::Tie;
 use runs::play::Call;
@@ -33,8 +35,7 @@ pub struct Tally {
 #[derive(Clone, Copy)]
 pub enum Reply {
     Done,
-    // the number of the refusal
-    Refused(u8),
+    Refused(EnterRefusal),
     Told(bool),
     // the number of a name, or none
     Name(Option<u8>),
@@ -44,22 +45,22 @@ pub enum Reply {
 // Puts the request to the book.
 pub fn perform<B: Keeping>(book: &mut B, request: Request) -> Reply
     ensures reply { λ r. ⌜ Replies (B·Reading .meaning (now (book .entry))) request r ⌝ }
-    ensures after { λ _. ⌜ B·Reading .meaning (now (book .exit)) ≡ left (B·Reading .meaning (now (book .entry))) request ⌝ }
+    ensures after { λ _. ⌜ B·Reading .meaning (now (book .exit)) ≡ meaning-after (B·Reading .meaning (now (book .entry))) request ⌝ }
     ensures held { λ _. ⌜ (B·Keeping .holds (now (book .entry)) → B·Keeping .holds (now (book .exit))) ⌝ }
 {
     match request {
         Request::Alter(call) => alter(book, call),
         Request::HasTie(tie) => match book.has_tie(tie) {
             Ok(there) => Reply::Told(there),
-            Err(refusal) => Reply::Refused(refusal.number()),
+            Err(refusal) => Reply::Refused(refusal.into()),
         },
         Request::HasMark(mark, name) => match book.has_mark(mark, name) {
             Ok(there) => Reply::Told(there),
-            Err(refusal) => Reply::Refused(refusal.number()),
+            Err(refusal) => Reply::Refused(refusal.into()),
         },
         Request::Next(label, dir, name, at) => match book.next(label, dir, name, at) {
             Ok(found) => Reply::Name(found),
-            Err(refusal) => Reply::Refused(refusal.number()),
+            Err(refusal) => Reply::Refused(refusal.into()),
         },
         Request::Tally => Reply::Tally(count_up(book)),
     }
@@ -68,14 +69,14 @@ pub fn perform<B: Keeping>(book: &mut B, request: Request) -> Reply
 // Makes an altering call, as a list of one.
 fn alter<B: Keeping>(book: &mut B, call: Call) -> Reply
     ensures reply { λ r. ⌜ Replies (B·Reading .meaning (now (book .entry))) (Request.Alter call) r ⌝ }
-    ensures after { λ _. ⌜ B·Reading .meaning (now (book .exit)) ≡ left (B·Reading .meaning (now (book .entry))) (Request.Alter call) ⌝ }
+    ensures after { λ _. ⌜ B·Reading .meaning (now (book .exit)) ≡ meaning-after (B·Reading .meaning (now (book .entry))) (Request.Alter call) ⌝ }
     ensures held { λ _. ⌜ (B·Keeping .holds (now (book .entry)) → B·Keeping .holds (now (book .exit))) ⌝ }
 {
     let mut answers = [Ok(())];
     play(book, &[call], &mut answers);
     match answers[0] {
         Ok(()) => Reply::Done,
-        Err(refusal) => Reply::Refused(refusal.number()),
+        Err(refusal) => Reply::Refused(refusal),
     }
 }
 

@@ -23,7 +23,7 @@ use Rattle.book.specs.declared.refusal.EnterRefusal.{EnterRefusal}
 use Rattle.book.specs.declared.tie.Tie.{Tie}
 use Rattle.book.specs.Meaning.{Meaning, at3, at2, with-ties, with-marks}
 use Rattle.book.specs.Calls.{entering, entered, striking, struck, marking, marked-as, tie-within, mark-within, ranged}
-use Rattle.runs.specs.Runs.{answer, after, answered, reached, ranging, Item, tie, mark, there, says, Unsaid, LastDecides}
+use Rattle.runs.specs.Runs.{answer, after, answered, reached, ranging, Item, tie, mark, there, effect, Unaffected, LastDecides}
 
 pub reached-more : (m : Meaning) (xs ys : List Call) → reached m (xs ++ ys) ≡ reached (reached m xs) ys
 reached-more m [] ys = refl
@@ -50,8 +50,8 @@ marks-tied : (w : Bool) (m : Meaning) (p : ℕ → ℕ → Bool) (l f t : ℕ) �
 marks-tied true m p l f t = refl
 marks-tied false m p l f t = refl
 
--- an accepted call that says something of an item is obeyed
-obeyed : (m : Meaning) (c : Call) (x : Item) (v : Bool) → answer m c ≡ Ok tt → says c x ≡ Some v → there (after m c) x ≡ v
+-- an accepted call that effect something of an item is obeyed
+obeyed : (m : Meaning) (c : Call) (x : Item) (v : Bool) → answer m c ≡ Ok tt → effect c x ≡ Some v → there (after m c) x ≡ v
 obeyed m (Enter u) (tie l f t) v ok s =
     tied-of (isOk (entering m u)) m (at3 (m .tied) (u .label) (u .from) (u .to) true) l f t ∙ (let w = ap isOk ok in grind (arith, tells, s, w))
 obeyed m (Enter u) (mark k n) v ok s = absurd (grind (arith, s))
@@ -80,7 +80,7 @@ as-ranged (Ok u) e = refl
 as-ranged (Err e′) e = absurd (grind (arith, e))
 
 -- and any other leaves it as it is
-unheard : (m : Meaning) (c : Call) (x : Item) → (answer m c ≡ Ok tt → says c x ≡ None) → there (after m c) x ≡ there m x
+unheard : (m : Meaning) (c : Call) (x : Item) → (answer m c ≡ Ok tt → effect c x ≡ None) → there (after m c) x ≡ there m x
 unheard m (Enter u) (tie l f t) quiet = tied-of (isOk (entering m u)) m _ l f t ∙ quiet-tie m u l f t true (isOk (entering m u)) (λ e. quiet (as-ranged (entering m u) e))
 unheard m (Enter u) (mark k n) quiet = ties-marked (isOk (entering m u)) m _ k n
 unheard m (Strike u) (tie l f t) quiet = tied-of (tie-within (m .counts) u) m _ l f t ∙ quiet-tie m u l f t false (tie-within (m .counts) u) quiet
@@ -119,21 +119,21 @@ reached-capacity : (m : Meaning) (cs : List Call) → reached m cs .capacity ≡
 reached-capacity m [] = refl
 reached-capacity m (c ∷ cs) = reached-capacity (after m c) cs ∙ after-capacity m c
 
-unsaid-reached : (m : Meaning) (cs : List Call) (x : Item) → Unsaid m cs x → there (reached m cs) x ≡ there m x
-unsaid-reached m [] x u = refl
-unsaid-reached m (c ∷ cs) x u = unsaid-reached (after m c) cs x (u .1) ∙ unheard m c x (u .0)
+unaffected-reached : (m : Meaning) (cs : List Call) (x : Item) → Unaffected m cs x → there (reached m cs) x ≡ there m x
+unaffected-reached m [] x u = refl
+unaffected-reached m (c ∷ cs) x u = unaffected-reached (after m c) cs x (u .1) ∙ unheard m c x (u .0)
 
--- The last accepted call that says something of an item decides.
+-- The last accepted call that effect something of an item decides.
 pub last-decides : (m : Meaning) (cs : List Call) → LastDecides m cs (reached m cs)
 last-decides m cs = record {
   counts-stay = reached-counts m cs;
   capacity-stays = reached-capacity m cs;
-  unsaid-stays = unsaid-reached m cs;
-  said-last = λ x before c later v e ok s quiet.
+  unaffected-stays = unaffected-reached m cs;
+  last-effect = λ x before c later v e ok s quiet.
       let here = reached-more m before (c ∷ []) in
       let split : reached m cs ≡ reached (reached m (before ++ (c ∷ []))) later =
       ap (reached m) e ∙ reached-more m before (c ∷ later) ∙ ap (λ n. reached n later) (sym here) in
-      ap (λ n. there n x) split ∙ unsaid-reached (reached m (before ++ (c ∷ []))) later x quiet ∙ ap (λ n. there n x) here ∙ obeyed (reached m before) c x v ok s;
+      ap (λ n. there n x) split ∙ unaffected-reached (reached m (before ++ (c ∷ []))) later x quiet ∙ ap (λ n. there n x) here ∙ obeyed (reached m before) c x v ok s;
 }
 
 answered-length : (m : Meaning) (cs : List Call) → length (answered m cs) ≡ length cs

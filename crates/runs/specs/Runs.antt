@@ -14,6 +14,7 @@ use Rattle.book.specs.declared.refusal.RangeRefusal.{RangeRefusal}
 use Rattle.book.specs.declared.refusal.EnterRefusal.{EnterRefusal}
 use Rattle.book.specs.declared.refusal.EnterRefusal.the-variants.{Range}
 use Rattle.book.specs.Meaning.{Meaning}
+use Rattle.book.specs.Ties.{is-tie}
 use Rattle.book.specs.Calls.{entering, entered, striking, struck, marking, marked-as}
 
 -- a refusal of a number as an answer of any altering call
@@ -55,28 +56,28 @@ abbrev pub there : Meaning → Item → Bool
 there m (tie l f t) = m .tied l f t
 there m (mark k n) = m .marked k n
 
--- what a call says of an item: that it is to be there, that it is not to be there, or nothing
-abbrev pub says : Call → Item → Option Bool
-says (Enter u) (tie l f t) = cond (eqb (u .label) l && eqb (u .from) f && eqb (u .to) t) (Some true) None
-says (Enter u) (mark k n) = None
-says (Strike u) (tie l f t) = cond (eqb (u .label) l && eqb (u .from) f && eqb (u .to) t) (Some false) None
-says (Strike u) (mark k n) = None
-says (SetMark j o) (tie l f t) = None
-says (SetMark j o) (mark k n) = cond (eqb j k && eqb o n) (Some true) None
-says (LiftMark j o) (tie l f t) = None
-says (LiftMark j o) (mark k n) = cond (eqb j k && eqb o n) (Some false) None
+-- what a call effect of an item: that it is to be there, that it is not to be there, or nothing
+abbrev pub effect : Call → Item → Option Bool
+effect (Enter u) (tie l f t) = cond (is-tie u l f t) (Some true) None
+effect (Enter u) (mark k n) = None
+effect (Strike u) (tie l f t) = cond (is-tie u l f t) (Some false) None
+effect (Strike u) (mark k n) = None
+effect (SetMark j o) (tie l f t) = None
+effect (SetMark j o) (mark k n) = cond (eqb j k && eqb o n) (Some true) None
+effect (LiftMark j o) (tie l f t) = None
+effect (LiftMark j o) (mark k n) = cond (eqb j k && eqb o n) (Some false) None
 
--- no accepted call of the list says anything of the item
-abbrev pub Unsaid : Meaning → List Call → Item → Type 0
-Unsaid m [] x = Unit {0}
-Unsaid m (c ∷ cs) x = (answer m c ≡ Ok tt → says c x ≡ None) × Unsaid (after m c) cs x
+-- no accepted call of the list effect anything of the item
+abbrev pub Unaffected : Meaning → List Call → Item → Type 0
+Unaffected m [] x = Unit {0}
+Unaffected m (c ∷ cs) x = (answer m c ≡ Ok tt → effect c x ≡ None) × Unaffected (after m c) cs x
 
--- The last accepted call that says something of a tie or a mark fact decides whether it is there; where
+-- The last accepted call that effect something of a tie or a mark fact decides whether it is there; where
 -- none does, it is there exactly when it was. Counts and capacity stay.
 pub record LastDecides (m : Meaning) (cs : List Call) (n : Meaning) : Type 0 where
   pub counts-stay : n .counts ≡ m .counts
   pub capacity-stays : n .capacity ≡ m .capacity
-  pub unsaid-stays : (x : Item) → Unsaid m cs x → there n x ≡ there m x
-  pub said-last : (x : Item) (before : List Call) (c : Call) (later : List Call) (v : Bool) → cs ≡ before ++ (c ∷ later)
-      → answer (reached m before) c ≡ Ok tt → says c x ≡ Some v → Unsaid (reached m (before ++ (c ∷ []))) later x
+  pub unaffected-stays : (x : Item) → Unaffected m cs x → there n x ≡ there m x
+  pub last-effect : (x : Item) (before : List Call) (c : Call) (later : List Call) (v : Bool) → cs ≡ before ++ (c ∷ later)
+      → answer (reached m before) c ≡ Ok tt → effect c x ≡ Some v → Unaffected (reached m (before ++ (c ∷ []))) later x
       → there n x ≡ v

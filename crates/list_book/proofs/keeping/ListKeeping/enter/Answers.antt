@@ -5,7 +5,7 @@ use native.Mathlib.Omega.{arith}
 use Rattle.std.proofs.shelf.Ways.{tells}
 use Rattle.book.specs.Meaning.{with-ties, ties-of}
 use Rattle.book.specs.Calls.{has}
-use Rattle.marks.specs.MarkBoards.{board-counts}
+use Rattle.marks.specs.MarkBoards.{counts-kept}
 use Rattle.book.specs.declared.refusal.EnterRefusal.the-variants.{Full}
 use Rattle.book_laws.proofs.Moves.{entered-by, entered-there, entered-refused, entering-there, entering-room, entering-full}
 use Rattle.list_book.specs.Listed.{listed}
@@ -17,19 +17,19 @@ pub ghost-self : need.ghost-self
 ghost-self c =
     let b = c .args .self .now in
     let e = same-front b (c .args .tie) _ (c .add .last .row) (c .as-mut-slice-row .ensures .value) (c .add .kept .row) (c .in-Present .ensures tt .1) in
-    (b .room, (b .front, subst (λ xs. Stand (board-counts (b .marks)) xs (b .used)) (sym e) (ties-stand b)))
+    (b .room, (b .front, subst (λ xs. Stand (counts-kept (b .marks)) xs (b .used)) (sym e) (ties-stand b)))
 
 pub ghost-self-in-Full : need.ghost-self-in-Full
 ghost-self-in-Full c =
     let b = c .args .self .now in
     let e = same-front b (c .args .tie) _ (c .add .last .row) (c .as-mut-slice-row .ensures .value) (c .add .kept .row) (c .in-Full .ensures tt .2) in
-    (b .room, (b .front, subst (λ xs. Stand (board-counts (b .marks)) xs (b .used)) (sym e) (ties-stand b)))
+    (b .room, (b .front, subst (λ xs. Stand (counts-kept (b .marks)) xs (b .used)) (sym e) (ties-stand b)))
 
 pub ghost-self-in-Placed : need.ghost-self-in-Placed
 ghost-self-in-Placed c =
     let b = c .args .self .now in
     let t = c .args .tie in
-    let n = board-counts (b .marks) in
+    let n = counts-kept (b .marks) in
     let w = tie-in n _ t (c .counts .ensures) (c .in-Continue-check-tie .ensures tt) in
     let lent = c .as-mut-slice-row .ensures .value in
     let ws = c .add .last .row in
@@ -43,7 +43,7 @@ returns-in-Present c =
     let b = c .args .self .now in
     let t = c .args .tie in
     let m = list-meaning b in
-    let w = tie-in (board-counts (b .marks)) _ t (c .counts .ensures) (c .in-Continue-check-tie .ensures tt) in
+    let w = tie-in (counts-kept (b .marks)) _ t (c .counts .ensures) (c .in-Continue-check-tie .ensures tt) in
     let lent = c .as-mut-slice-row .ensures .value in
     let ws = c .add .last .row in
     let some = some-lent b t _ ws lent (c .add .kept .row) (c .in-Present .field-0) (c .in-Present .ensures tt .0) in
@@ -62,7 +62,7 @@ returns-in-Placed c =
     let b = c .args .self .now in
     let t = c .args .tie in
     let m = list-meaning b in
-    let w = tie-in (board-counts (b .marks)) _ t (c .counts .ensures) (c .in-Continue-check-tie .ensures tt) in
+    let w = tie-in (counts-kept (b .marks)) _ t (c .counts .ensures) (c .in-Continue-check-tie .ensures tt) in
     let lent = c .as-mut-slice-row .ensures .value in
     let ws = c .add .last .row in
     let grown = c .in-Placed .ensures tt .1 in
@@ -70,7 +70,7 @@ returns-in-Placed c =
     let ok = entering-room m t w (omega (arith, count b, grew-room b t _ ws lent (c .add .kept .row) grown)) in
     record {
       answer = sym ok;
-      after = entered-by m t _ ok (λ x y z. ap (λ ys. listed ys x y z) e ∙ placed (board-counts (b .marks)) (row-ties b) t x y z);
+      after = entered-by m t _ ok (λ x y z. ap (λ ys. listed ys x y z) e ∙ placed (counts-kept (b .marks)) (row-ties b) t x y z);
       held = λ u. u;
       rest = (refl, rest-now b t _ ws lent (c .add .kept .row));
     }
@@ -80,7 +80,7 @@ returns-in-Full c =
     let b = c .args .self .now in
     let t = c .args .tie in
     let m = list-meaning b in
-    let w = tie-in (board-counts (b .marks)) _ t (c .counts .ensures) (c .in-Continue-check-tie .ensures tt) in
+    let w = tie-in (counts-kept (b .marks)) _ t (c .counts .ensures) (c .in-Continue-check-tie .ensures tt) in
     let lent = c .as-mut-slice-row .ensures .value in
     let ws = c .add .last .row in
     let none = none-lent b t _ ws lent (c .add .kept .row) (c .in-Full .ensures tt .0) in

@@ -7,9 +7,9 @@ use Rattle.std.specs.Of.Vec.{vec-items}
 use Rattle.std.specs.declared.option.Option.the-variants.{None}
 use Rattle.rows.specs.Rows.{FirstAt, Finds}
 use Rattle.book.specs.Calls.{has, ranged}
-use Rattle.marks.specs.MarkBoards.{board-counts}
+use Rattle.marks.specs.MarkBoards.{counts-kept}
 use Rattle.book_laws.proofs.Moves.{struck-by, struck-absent}
-use Rattle.list_book.specs.Listed.{same}
+use Rattle.book.specs.Ties.{same-tie}
 use Rattle.list_book.specs.ListBooks.{list-meaning, row-ties}
 use Rattle.list_book.proofs.Times.{absent-times, found-times}
 use Rattle.list_book.proofs.Moves.{tie-in, i-in, struck-moved, removed, removed-stand}
@@ -19,9 +19,9 @@ pub ghost-self : need.ghost-self
 ghost-self c =
     let b = c .args .self .now in
     let t = c .args .tie in
-    let n = board-counts (b .marks) in
+    let n = counts-kept (b .marks) in
     let w = tie-in n _ t (c .counts .ensures) (c .in-Continue-check-tie .ensures tt) in
-    let found = subst (λ ys. FirstAt same ys t (c .in-Some .i)) (c .ties .ensures) (c .in-Some .ensures tt) in
+    let found = subst (λ ys. FirstAt same-tie ys t (c .in-Some .i)) (c .ties .ensures) (c .in-Some .ensures tt) in
     let moved = struck-moved b t (c .index-last .result .now) (c .in-Some .i) found (c .index-last .ensures) in
     let some = found-times (row-ties b) t (c .in-Some .i) found in
     (b .room, (omega (arith, b .front), removed-stand n (row-ties b) t (b .once) _ moved (b .used) w some (b .inside) (b .counted)))
@@ -31,9 +31,9 @@ returns-in-Some c =
     let b = c .args .self .now in
     let t = c .args .tie in
     let m = list-meaning b in
-    let n = board-counts (b .marks) in
+    let n = counts-kept (b .marks) in
     let w = tie-in n _ t (c .counts .ensures) (c .in-Continue-check-tie .ensures tt) in
-    let found = subst (λ ys. FirstAt same ys t (c .in-Some .i)) (c .ties .ensures) (c .in-Some .ensures tt) in
+    let found = subst (λ ys. FirstAt same-tie ys t (c .in-Some .i)) (c .ties .ensures) (c .in-Some .ensures tt) in
     let moved = struck-moved b t (c .index-last .result .now) (c .in-Some .i) found (c .index-last .ensures) in
     record {
       answer = sym (ap ranged w);
@@ -47,7 +47,7 @@ returns-in-rest c =
     let b = c .args .self .now in
     let t = c .args .tie in
     let m = list-meaning b in
-    let w = tie-in (board-counts (b .marks)) _ t (c .counts .ensures) (c .in-Continue-check-tie .ensures tt) in
-    let none = absent-times (row-ties b) t (subst (λ ys. Finds same ys t None) (c .ties .ensures) (c .in-rest .ensures tt)) in
+    let w = tie-in (counts-kept (b .marks)) _ t (c .counts .ensures) (c .in-Continue-check-tie .ensures tt) in
+    let none = absent-times (row-ties b) t (subst (λ ys. Finds same-tie ys t None) (c .ties .ensures) (c .in-rest .ensures tt)) in
     let absent : has m t ≡ false = grind (arith, tells, none) in
     record { answer = sym (ap ranged w); after = struck-absent m t w absent; held = λ u. u; rest = (refl, refl) }

@@ -2,7 +2,7 @@ use mathlib.Core.Path.{ap}
 use Prim.Native.Nat.{_<_}
 use native.Mathlib.Omega.{arith}
 use lib.ListN.{length}
-use Rattle.marks.specs.MarkBoards.{board-counts}
+use Rattle.marks.specs.MarkBoards.{counts-kept}
 use Rattle.list_book.specs.ListBooks.{row-ties}
 use Rattle.list_book.proofs.Seeking.{lowest-nil, turn-none, turn-less, turn-more, all-seen, none-found, next-in}
 use Rattle.list_book.proofs.reading.ListReading.next.Needs as need
@@ -30,7 +30,7 @@ pub returns-then-lowest-counts : need.returns-then-lowest-counts
 returns-then-lowest-counts c =
     let b = c .args .self .now in
     let end = all-seen _ (row-ties b) (c .loop-tie .tie-index) (c .args .label) (c .args .dir) (c .args .name) (c .args .at) (c .counts-counts .result .names) (c .loop-tie .lowest) (c .loop-tie-test .left) (c .ties-tie-items .ensures) (c .loop-tie .inv) in
-    let within = next-in (board-counts (b .marks)) _ (c .args .label) (c .args .name) (c .args .at) (c .counts-counts .ensures) (c .in-Continue-check-next .ensures tt) in
+    let within = next-in (counts-kept (b .marks)) _ (c .args .label) (c .args .name) (c .args .at) (c .counts-counts .ensures) (c .in-Continue-check-next .ensures tt) in
     let found = end .1 (c .if-lowest-counts .taken) in
     (within, found .0, found .1, end .2)
 
@@ -38,6 +38,6 @@ pub returns-else-lowest-counts : need.returns-else-lowest-counts
 returns-else-lowest-counts c =
     let b = c .args .self .now in
     let end = all-seen _ (row-ties b) (c .loop-tie .tie-index) (c .args .label) (c .args .dir) (c .args .name) (c .args .at) (c .counts-counts .result .names) (c .loop-tie .lowest) (c .loop-tie-test .left) (c .ties-tie-items .ensures) (c .loop-tie .inv) in
-    let within = next-in (board-counts (b .marks)) _ (c .args .label) (c .args .name) (c .args .at) (c .counts-counts .ensures) (c .in-Continue-check-next .ensures tt) in
+    let within = next-in (counts-kept (b .marks)) _ (c .args .label) (c .args .name) (c .args .at) (c .counts-counts .ensures) (c .in-Continue-check-next .ensures tt) in
     let names = ap (λ k. k .names) (c .counts-counts .ensures) in
-    (within, none-found (board-counts (b .marks)) (row-ties b) (c .args .label) (c .args .dir) (c .args .name) (c .args .at) (c .counts-counts .result .names) (c .loop-tie .lowest) (b .inside) names (c .if-lowest-counts .left) end)
+    (within, none-found (counts-kept (b .marks)) (row-ties b) (c .args .label) (c .args .dir) (c .args .name) (c .args .at) (c .counts-counts .result .names) (c .loop-tie .lowest) (b .inside) names (c .if-lowest-counts .left) end)

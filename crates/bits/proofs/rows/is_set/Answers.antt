@@ -3,7 +3,7 @@ use mathlib.Core.Path.{sym}
 use native.Mathlib.Omega.{arith}
 use Prim.Native.Nat.{_/_, _%_}
 use Rattle.bits.proofs.BitLaws.{bit-read, lit-past}
-use Rattle.bits.proofs.rows.is_lit.Needs as need
+use Rattle.bits.proofs.rows.is_set.Needs as need
 
 pub returns-then-at-words : need.returns-then-at-words
 returns-then-at-words c = bit-read (getD (c .args .words .now) (c .args .i / 64) 0) (c .args .i % 64)
