@@ -1,4 +1,5 @@
 // Answer lines.
+use policy_reader::fault::PolicyFault;
 use requests::request::Reply;
 use requests::request::Tally;
 use roll::list::List;
@@ -46,6 +47,18 @@ fn say_tally(heap: Global, tally: Tally, out: &mut Vec<u8>) -> Result<(), AllocE
         heap,
         "names={names} labels={labels} marks={marks} ties={ties} marked={marked} capacity={capacity}"
     )?;
+    say(out, text.as_bytes())
+}
+
+// Says why a text is no policy: the number, and the place in the text.
+pub fn say_policy_fault(
+    heap: Global,
+    fault: PolicyFault,
+    out: &mut Vec<u8>,
+) -> Result<(), AllocError> {
+    let number = fault.number();
+    let at = fault.at();
+    let text = format!(heap, "refused={number} at={at}")?;
     say(out, text.as_bytes())
 }
 

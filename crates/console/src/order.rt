@@ -45,6 +45,8 @@ pub enum Order<'a> {
     // a list book of so many places
     OpenList(u16),
     OpenBoard,
+    // the text of a policy
+    Policy(&'a [u8]),
     Ask(Question<'a>),
 }
 
@@ -64,6 +66,9 @@ impl<'a> Order<'a> {
         }
         if let Some(text) = text_behind(line, b"marks") {
             return Order::Text(List::Marks, text);
+        }
+        if let Some(text) = text_behind(line, b"policy") {
+            return Order::Policy(text);
         }
         let mut words = Pieces::words(line);
         match words.next() {

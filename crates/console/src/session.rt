@@ -1,6 +1,7 @@
 // A session at the console: the texts of the next roll, and the open book with a roll of its own.
 use crate::answer::say;
 use crate::answer::say_fault;
+use crate::answer::say_policy_fault;
 use crate::answer::say_reply;
 use crate::order::Order;
 use crate::order::Question;
@@ -13,6 +14,7 @@ use book::tie::Tie;
 use list_book::ListBook;
 use list_book::keeping::ListKeeping;
 use list_book::reading::ListReading;
+use policy_reader::reading::read;
 use requests::request::perform;
 use roll::list::List;
 use roll::roll::Roll;
@@ -104,6 +106,7 @@ impl Session {
             }
             Order::OpenList(places) => self.open_list(places, out)?,
             Order::OpenBoard => self.open_board(out)?,
+            Order::Policy(text) => self.read_policy(text, out)?,
             Order::Ask(question) => self.ask(question, out)?,
         }
         say(out, b"\n")
@@ -139,6 +142,15 @@ impl Session {
         }
     }
 
+    // Reads a policy under the roll of the open book.
+    fn read_policy(&self, text: &[u8], out: &mut Vec<u8>) -> Result<(), AllocError> {
+        match &self.open {
+            Open::Nothing => say(out, b"no book"),
+            Open::List(texts, _) => say_policy(self.heap, texts, text, out),
+            Open::Board(texts, _) => say_policy(self.heap, texts, text, out),
+        }
+    }
+
     // Puts a question to the open book.
     fn ask(&mut self, question: Question<'_>, out: &mut Vec<u8>) -> Result<(), AllocError> {
         match &mut self.open {
@@ -146,6 +158,22 @@ impl Session {
             Open::List(texts, book) => ask_book(self.heap, texts, book, question, out),
             Open::Board(texts, book) => ask_book(self.heap, texts, book, question, out),
         }
+    }
+}
+
+// Says whether a text is a policy under the roll of these texts.
+fn say_policy(
+    heap: Global,
+    texts: &Texts,
+    text: &[u8],
+    out: &mut Vec<u8>,
+) -> Result<(), AllocError> {
+    match texts.roll() {
+        Ok(roll) => match read(&roll, text) {
+            Ok(_) => say(out, b"ok"),
+            Err(fault) => say_policy_fault(heap, fault, out),
+        },
+        Err(fault) => say_fault(heap, fault, out),
     }
 }
 

@@ -1,36 +1,37 @@
 -- How the row of a list book moves.
-use mathlib.Core.Path.{_≡_, sym, ap, subst, _∙_}
-use mathlib.Core.Bool.{true, false, cond, _&&_}
+use mathlib.Core.Path.{_≡_, refl, sym, ap, subst, _∙_}
+use mathlib.Core.Bool.{Bool, true, false, cond, not, _&&_}
 use mathlib.Core.List.{List, [], _∷_, _++_}
 use mathlib.Core.Logic.{⊎-elim}
 use Prim.Native.Nat.{ℕ, _+_, _-_, _<_, _≤_}
 use native.Mathlib.Omega.{arith}
-use native.Mathlib.Nat.{add-zero}
-use borrow.Rule.Slice.PartMut.{putMid}
+use native.Mathlib.Nat.{add-zero, zero-add}
+use borrow.Rule.Slice.PartMut.{putMid, same-len-mid, put-same, set-mid-at}
 use lib.Dec.{ltb}
-use lib.ListN.{length, getD, take, drop, set, length-append, length-drop}
+use lib.ListN.{length, getD, take, drop, set}
 use Rattle.std.proofs.shelf.Ways.{tells}
-use Rattle.std.proofs.shelf.Lists.{refilled-is, getD-take, length-take, length-take-le, take-take, take-append-le}
-use Rattle.std.proofs.shelf.Parts.{drop-putMid}
-use Rattle.std.proofs.shelf.Tests.{cases-lt, cases-bool}
-use Rattle.std.specs.Of.Vec.{vec-items, vec-len}
+use Rattle.std.proofs.shelf.Lists.{refilled-is, getD-take, getD-read, length-take, length-take-le, take-take, take-append-drop, take-more-set, drop-set-lt}
+use Rattle.std.proofs.shelf.Tests.{cases-lt, cases-bool, cond-true, cond-false}
+use Rattle.std.specs.Of.Vec.{vec-items}
+use Rattle.std.specs.Results.{isOk}
 use Rattle.std.specs.Changed.{refilled}
 use Rattle.std.specs.declared.alloc.Global.{Global}
 use Rattle.std.specs.declared.vec.Vec.{Vec}
-use Rattle.std.specs.declared.result.Result.the-variants.{Ok}
+use Rattle.std.specs.declared.result.Result.the-variants.{Ok, Err}
 use Rattle.rows.specs.Rows.{Absent, FirstAt, Grew}
 use Rattle.book.specs.declared.counts.Counts.{Counts}
 use Rattle.book.specs.declared.tie.Tie.{Tie}
 use Rattle.book.specs.Meaning.{at3, count3, ties-of}
 use Rattle.marks.specs.MarkBoards.{counts-kept}
-use Rattle.book.specs.Calls.{tie-within, ranged}
+use Rattle.book.specs.Calls.{tie-within, ranged, has, entering}
+use Rattle.book.specs.declared.refusal.EnterRefusal.{EnterRefusal}
 use Rattle.book_laws.proofs.Counting.{count3-put, count3-cut}
 use Rattle.book_laws.proofs.Moves.{fun-ext3}
 use Rattle.marks.proofs.MarkMoves.{ranged-ok}
 use Rattle.list_book.specs.declared.ListBook.{ListBook}
 use Rattle.book.specs.Ties.{is-tie, same-tie}
 use Rattle.list_book.specs.Listed.{times, listed, Once, Inside, Counted, HoldsTies}
-use Rattle.list_book.specs.ListBooks.{list-meaning, row-ties}
+use Rattle.list_book.specs.ListBooks.{list-meaning, row-ties, row-items, row-entered, RowStruck}
 use Rattle.list_book.proofs.Times.{times-push, times-moved, absent-times, found-times, stands-times, place-of, two-times}
 
 -- what a book keeps true of the ties in its row
@@ -103,19 +104,14 @@ count b = sym (b .counted)
 pub ties-long : (b : ListBook) → length (row-ties b) ≡ b .used
 ties-long b = length-take-le (b .used) (vec-items (b .row)) (omega (arith, b .front, b .room, b .row .ok .0))
 
--- the first places of the row were lent, and hold ws now
-module _ (v : Vec Tie Global) (n : ℕ) (rs ws : List Tie) (lent : rs ≡ vec-items v) (n-in : n ≤ vec-len v) (long : length ws ≡ n) where
-  whole : vec-items (refilled v (putMid 0 (n - 0) rs ws)) ≡ putMid 0 (n - 0) rs ws
-  whole =
-      let k : n - 0 ≡ n = omega arith in
-      let as-long : length (putMid 0 (n - 0) rs ws) ≡ v .len = simp (length-append, length-drop) (omega (arith, ap length lent, v .ok .0)) in
-      refilled-is v (putMid 0 (n - 0) rs ws) as-long
+-- two lists that are alike before and after a place
+same-parts : {X : Type 0} (k : ℕ) (xs ys : List X) → take k xs ≡ take k ys → drop k xs ≡ drop k ys → xs ≡ ys
+same-parts k xs ys e f = sym (take-append-drop k xs) ∙ (λ i. e i ++ f i) ∙ take-append-drop k ys
 
-  pub front-of : (k : ℕ) → k ≤ n → take k (vec-items (refilled v (putMid 0 (n - 0) rs ws))) ≡ take k ws
-  front-of k le = ap (take k) whole ∙ take-append-le k ws _ (omega (arith, long))
-
-  pub back-of : drop n (vec-items (refilled v (putMid 0 (n - 0) rs ws))) ≡ drop n (vec-items v)
-  back-of = ap (drop n) whole ∙ drop-putMid 0 (n - 0) rs ws n (omega arith) (omega arith) (omega (arith, long)) ∙ ap (drop n) lent
+-- a row that grew is the old one with the thing written behind the others
+grown : {X : Type 0} (xs ys : List X) (used : ℕ) (x : X) → Grew xs ys used x → ys ≡ set xs used x
+grown xs ys used x h =
+    same-parts (used + 1) ys (set xs used x) (h .front ∙ sym (take-more-set xs used x (h .room))) (h .rest ∙ sym (drop-set-lt (used + 1) xs used x (omega arith)))
 
 -- the places up to the limit were lent as a part of rs, and hold ws now
 module _ (b : ListBook) (t : Tie) (rs ws : List Tie) (lent : rs ≡ vec-items (b .row)) (long : length ws ≡ length (take (b .limit - 0) rs)) where
@@ -131,11 +127,16 @@ module _ (b : ListBook) (t : Tie) (rs ws : List Tie) (lent : rs ≡ vec-items (b
   part-is : take (b .used) part ≡ row-ties b
   part-is = take-take (b .used) (b .limit - 0) rs (omega (arith, b .front)) ∙ ap (take (b .used)) lent
 
-  front-now : (k : ℕ) → k ≤ b .limit → take k (vec-items row-now) ≡ take k ws
-  front-now = front-of (b .row) (b .limit) rs ws lent (b .room) (long ∙ part-long)
+  whole : vec-items row-now ≡ putMid 0 (b .limit - 0) rs ws
+  whole = refilled-is (b .row) (putMid 0 (b .limit - 0) rs ws) (omega (arith, same-len-mid 0 (b .limit - 0) rs ws long, ap length lent, b .row .ok .0))
 
-  pub rest-now : drop (b .limit) (vec-items row-now) ≡ drop (b .limit) (vec-items (b .row))
-  rest-now = back-of (b .row) (b .limit) rs ws lent (b .room) (long ∙ part-long)
+  pub row-same : ws ≡ part → vec-items row-now ≡ vec-items (b .row)
+  row-same e = whole ∙ ap (putMid 0 (b .limit - 0) rs) e ∙ put-same 0 (b .limit - 0) rs ∙ lent
+
+  pub row-grew : Grew part ws (b .used) t → vec-items row-now ≡ set (vec-items (b .row)) (b .used) t
+  row-grew h =
+      whole ∙ ap (putMid 0 (b .limit - 0) rs) (grown part ws (b .used) t h) ∙ set-mid-at 0 (b .limit - 0) (b .used) rs t (h .room) ∙ ap (λ xs. set xs (0 + b .used) t) lent
+      ∙ ap (λ k. set (vec-items (b .row)) k t) (zero-add (b .used))
 
   pub none-lent : Absent same-tie (take (b .used) part) (length (take (b .used) part)) t → times (row-ties b) (t .label) (t .from) (t .to) ≡ 0
   none-lent h = absent-times (row-ties b) t (subst (λ ys. Absent same-tie ys (length ys) t) part-is h)
@@ -144,16 +145,48 @@ module _ (b : ListBook) (t : Tie) (rs ws : List Tie) (lent : rs ≡ vec-items (b
   some-lent i h = found-times (row-ties b) t i (subst (λ ys. FirstAt same-tie ys t i) part-is h)
 
   pub same-front : ws ≡ part → take (b .used) (vec-items row-now) ≡ row-ties b
-  same-front e = front-now (b .used) (b .front) ∙ ap (take (b .used)) e ∙ part-is
+  same-front e = ap (take (b .used)) (row-same e)
 
   pub grew-room : Grew part ws (b .used) t → b .used < b .limit
   grew-room h = omega (arith, h .room, part-long)
 
   pub grew-front : Grew part ws (b .used) t → take (b .used + 1) (vec-items row-now) ≡ row-ties b ++ t ∷ []
-  grew-front h = front-now (b .used + 1) (omega (arith, grew-room h)) ∙ h .front ∙ ap (λ ys. ys ++ t ∷ []) part-is
+  grew-front h = ap (take (b .used + 1)) (row-grew h) ∙ take-more-set (vec-items (b .row)) (b .used) t (omega (arith, grew-room h, b .room, b .row .ok .0))
 
   pub full-lent : length part ≤ b .used → b .limit ≤ b .used
   full-lent h = omega (arith, h, part-long)
+
+-- the row that entering leaves
+module _ (b : ListBook) (t : Tie) where
+  abbrev alters : Bool
+  alters = isOk (entering (list-meaning b) t) && not (has (list-meaning b) t)
+
+  pub left-there : has (list-meaning b) t ≡ true → row-entered b t ≡ row-items b
+  left-there there = cond-false alters _ _ (grind (arith, there))
+
+  pub left-refused : (e : EnterRefusal) → entering (list-meaning b) t ≡ Err e → row-entered b t ≡ row-items b
+  left-refused e h = cond-false alters _ _ (ap (λ r. isOk r && not (has (list-meaning b) t)) h)
+
+  pub written : entering (list-meaning b) t ≡ Ok tt → times (row-ties b) (t .label) (t .from) (t .to) ≡ 0 → row-entered b t ≡ set (row-items b) (b .used) t
+  written ok none =
+      let absent : has (list-meaning b) t ≡ false = grind (arith, tells, none) in
+      let does : alters ≡ true = ap (λ r. isOk r && not (has (list-meaning b) t)) ok ∙ ap not absent in
+      cond-true alters _ _ does ∙ ap (λ n. set (row-items b) n t) (count b)
+
+  -- and striking, where the tie was not there
+  pub left-absent : has (list-meaning b) t ≡ false → RowStruck b t (row-items b)
+  left-absent absent = ((λ there. absurd (grind (arith, there, absent))), λ _. refl)
+
+-- the tie of these numbers
+abbrev tie : ℕ → ℕ → ℕ → Tie
+tie l f t = record { label = l; from = f; to = t }
+
+-- ties that are the same are equal
+pub same-equal : (x y : Tie) → same-tie x y ≡ true → x ≡ y
+same-equal x y e = ap (λ n. tie n (x .from) (x .to)) (eqs .0) ∙ ap (λ n. tie (y .label) n (x .to)) (eqs .1) ∙ ap (λ n. tie (y .label) (y .from) n) (eqs .2)
+  where
+    eqs : (x .label ≡ y .label) × (x .from ≡ y .from) × (x .to ≡ y .to)
+    eqs = (grind (arith, tells, e), grind (arith, tells, e), grind (arith, tells, e))
 
 like : (x t : Tie) (l f u : ℕ) → same-tie x t ≡ true → is-tie x l f u ≡ is-tie t l f u
 like x t l f u e = grind (arith, tells, e)
@@ -178,16 +211,23 @@ module _ (b : ListBook) (t y : Tie) (i : ℕ) (found : FirstAt same-tie (row-tie
       subst (λ v. times left-over l f u + cond v 1 0 ≡ times (row-ties b) l f u) alike
       (subst (λ k. times left-over l f u + cond (is-tie (getD xs i y) l f u) 1 0 ≡ times (take k xs) l f u) n moved)
 
--- the tie of these numbers
-abbrev tie : ℕ → ℕ → ℕ → Tie
-tie l f t = record { label = l; from = f; to = t }
-
--- ties that are the same are equal
-pub same-equal : (x y : Tie) → same-tie x y ≡ true → x ≡ y
-same-equal x y e = ap (λ n. tie n (x .from) (x .to)) (eqs .0) ∙ ap (λ n. tie (y .label) n (x .to)) (eqs .1) ∙ ap (λ n. tie (y .label) (y .from) n) (eqs .2)
-  where
-    eqs : (x .label ≡ y .label) × (x .from ≡ y .from) × (x .to ≡ y .to)
-    eqs = (grind (arith, tells, e), grind (arith, tells, e), grind (arith, tells, e))
+  -- the row that striking leaves
+  pub taken-out : RowStruck b t (set (vec-items (b .row)) i y)
+  taken-out =
+      let xs = vec-items (b .row) in
+      let n = count b in
+      let long = b .row .ok .0 in
+      let some = found-times (row-ties b) t i found in (
+        (λ _. (
+          i,
+          (
+            omega (arith, i-in, n),
+            (λ d. sym (getD-take (b .used) xs i d i-in) ∙ same-equal _ t (found .1 d)),
+            λ d. ap (set xs i) (getD-read xs (b .used - 1) y (omega (arith, i-in, long, b .front, b .room)) last d ∙ ap (λ k. getD xs (k - 1) d) (sym n)),
+          ),
+        )),
+        λ absent. absurd (grind (arith, tells, some, absent)),
+      )
 
 pub same-refl : (x : Tie) → same-tie x x ≡ true
 same-refl x = grind (arith, tells)

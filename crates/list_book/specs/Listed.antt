@@ -32,8 +32,8 @@ Inside c xs = (l f t : ℕ) → listed xs l f t ≡ inside3 c (listed xs) l f t
 abbrev pub Counted : Counts → List Tie → ℕ → Type 0
 Counted c xs used = used ≡ count3 (c .labels) (c .names) (listed xs)
 
--- The first places of a row, as many as a book has ties, hold the ties of the book, each once. Their
--- order is free.
+-- The first places of a row, as many as a book has ties, hold the ties of the book, each once, in
+-- whatever order.
 pub record HoldsTies (m : Meaning) (xs : List Tie) : Type 0 where
   pub fits : ties-of m ≤ length xs
   -- what stands there is a tie of the book

@@ -2,7 +2,7 @@
 ghost use mathlib.Core.Path.{_≡_};
 ghost use mathlib.Core.Bool.{true, false};
 ghost use Rattle.book.specs.Calls.{entering, entered, striking, struck, marking, marked-as};
-ghost use Rattle.list_book.specs.ListBooks.{list-meaning, SameRest};
+ghost use Rattle.list_book.specs.ListBooks.{list-meaning, row-items, row-entered, RowStruck};
 use crate::ListBook;
 use crate::reading::ListReading;
 use book::faces::Keeping;
@@ -14,8 +14,9 @@ use book::tie::Tie;
 use book::tie::TieSameness;
 use rows::Added;
 
-// Each call leaves the row's length and its places from the capacity on as they are (`rest`). The book
-// has nothing to tell beside its meaning, so that `held` says nothing.
+// Each call says what the row is after it (`row`): entering and striking write at one place below the
+// capacity, and only where they alter the ties; no other call writes. The book has nothing to tell beside
+// its meaning and its row, so that `held` says nothing.
 pub impl Keeping for ListBook as ListKeeping {
     fn capacity(&self) -> usize {
         self.limit
@@ -25,7 +26,7 @@ pub impl Keeping for ListBook as ListKeeping {
         ensures answer { λ r. ⌜ r ≡ entering (list-meaning (now (self .entry))) tie ⌝ }
         ensures after { λ r. ⌜ list-meaning (now (self .exit)) ≡ entered (list-meaning (now (self .entry))) tie ⌝ }
         ensures held { λ _. ⌜ (Unit {0} → Unit {0}) ⌝ }
-        ensures rest { λ _. ⌜ SameRest (now (self .entry)) (now (self .exit)) ⌝ }
+        ensures row { λ _. ⌜ row-items (now (self .exit)) ≡ row-entered (now (self .entry)) tie ⌝ }
     {
         self.counts().check_tie(tie)?;
         let limit = self.limit;
@@ -44,7 +45,7 @@ pub impl Keeping for ListBook as ListKeeping {
         ensures answer { λ r. ⌜ r ≡ striking (list-meaning (now (self .entry))) tie ⌝ }
         ensures after { λ r. ⌜ list-meaning (now (self .exit)) ≡ struck (list-meaning (now (self .entry))) tie ⌝ }
         ensures held { λ _. ⌜ (Unit {0} → Unit {0}) ⌝ }
-        ensures rest { λ _. ⌜ SameRest (now (self .entry)) (now (self .exit)) ⌝ }
+        ensures row { λ _. ⌜ RowStruck (now (self .entry)) tie (row-items (now (self .exit))) ⌝ }
     {
         self.counts().check_tie(tie)?;
         if let Some(i) = rows::find(self.ties(), &tie) {
@@ -59,7 +60,7 @@ pub impl Keeping for ListBook as ListKeeping {
         ensures answer { λ r. ⌜ r ≡ marking (list-meaning (now (self .entry))) mark name ⌝ }
         ensures after { λ r. ⌜ list-meaning (now (self .exit)) ≡ marked-as (list-meaning (now (self .entry))) mark name true ⌝ }
         ensures held { λ _. ⌜ (Unit {0} → Unit {0}) ⌝ }
-        ensures rest { λ _. ⌜ SameRest (now (self .entry)) (now (self .exit)) ⌝ }
+        ensures row { λ _. ⌜ row-items (now (self .exit)) ≡ row-items (now (self .entry)) ⌝ }
     {
         self.marks.put_mark(mark, name, true)
     }
@@ -68,7 +69,7 @@ pub impl Keeping for ListBook as ListKeeping {
         ensures answer { λ r. ⌜ r ≡ marking (list-meaning (now (self .entry))) mark name ⌝ }
         ensures after { λ r. ⌜ list-meaning (now (self .exit)) ≡ marked-as (list-meaning (now (self .entry))) mark name false ⌝ }
         ensures held { λ _. ⌜ (Unit {0} → Unit {0}) ⌝ }
-        ensures rest { λ _. ⌜ SameRest (now (self .entry)) (now (self .exit)) ⌝ }
+        ensures row { λ _. ⌜ row-items (now (self .exit)) ≡ row-items (now (self .entry)) ⌝ }
     {
         self.marks.put_mark(mark, name, false)
     }

@@ -11,7 +11,7 @@ pub mod keeping;
 pub mod making;
 pub mod reading;
 
-// A book whose ties stand in the first places of its row, each once, in no order that is told.
+// A book whose ties stand in the first places of its row, each once.
 #[derive(Drop)]
 pub struct ListBook {
     // the counts and the mark facts

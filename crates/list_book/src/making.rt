@@ -1,10 +1,9 @@
 // The making of a list book, and taking it apart.
 ghost use mathlib.Core.Path.{_≡_};
-ghost use lib.ListN.{drop};
 ghost use Rattle.std.specs.Of.Vec.{vec-items, vec-len};
 ghost use Rattle.book.specs.Limits.{checked};
 ghost use Rattle.list_book.specs.Listed.{HoldsTies};
-ghost use Rattle.list_book.specs.ListBooks.{list-meaning, made-meaning, row-length, past-limit};
+ghost use Rattle.list_book.specs.ListBooks.{list-meaning, made-meaning, row-items};
 use crate::ListBook;
 use book::counts::CountRefusal;
 use book::counts::Counts;
@@ -24,10 +23,10 @@ impl ListBook {
 
     // A book without ties and mark facts over the row: of these counts and with as many places as the
     // row has, at most 4,096; of one name, no label, no mark and no place where the counts are refused.
+    // The row stays as it was handed over.
     pub fn new(counts: Counts, row: Vec<Tie>) -> ListBook
         ensures meaning { λ r. ⌜ list-meaning r ≡ made-meaning counts (vec-len row) ⌝ }
-        ensures length { λ r. ⌜ row-length r ≡ vec-len row ⌝ }
-        ensures past { λ r. ⌜ past-limit r ≡ drop (made-meaning counts (vec-len row) .capacity) (vec-items row) ⌝ }
+        ensures row { λ r. ⌜ row-items r ≡ vec-items row ⌝ }
     {
         let limit = Self::limit_of(counts, row.len());
         ListBook {
@@ -48,13 +47,11 @@ impl ListBook {
         }
     }
 
-    // Takes the book apart and gives its row back, as long as it came. The first places, as many as
-    // there are ties, hold the ties, each once, in no order that is told; the places from the
-    // capacity on are as they came.
+    // Takes the book apart and gives its row back, whole and as it stands. The first places, as many as
+    // there are ties, hold the ties, each once.
     pub fn into_row(self) -> Vec<Tie>
-        ensures length { λ r. ⌜ vec-len r ≡ row-length self ⌝ }
+        ensures row { λ r. ⌜ vec-items r ≡ row-items self ⌝ }
         ensures ties { λ r. ⌜ HoldsTies (list-meaning self) (vec-items r) ⌝ }
-        ensures past { λ r. ⌜ drop (list-meaning self .capacity) (vec-items r) ≡ past-limit self ⌝ }
     {
         let ListBook {
             marks: _,

@@ -3,4 +3,4 @@ use Rattle.list_book.proofs.Moves.{holds-ties}
 use Rattle.list_book.proofs.ListBook.into_row.Needs as need
 
 pub returns : need.returns
-returns c = record { length = refl; ties = holds-ties (c .args .self); past = refl }
+returns c = record { row = refl; ties = holds-ties (c .args .self) }

@@ -1,7 +1,6 @@
-use mathlib.Core.Path.{refl, ap}
-use lib.ListN.{drop}
+use mathlib.Core.Path.{refl}
 use native.Mathlib.Omega.{arith}
-use Rattle.std.specs.Of.Vec.{vec-items, vec-len}
+use Rattle.std.specs.Of.Vec.{vec-len}
 use Rattle.marks.specs.MarkBoards.{counts-kept, marks-kept}
 use Rattle.list_book.proofs.Opening.{once-nil, inside-nil, counted-nil, limit-is, limit-fits, made-as}
 use Rattle.list_book.proofs.ListBook.new.Needs as need
@@ -19,6 +18,5 @@ returns c =
     let limit = limit-is (c .args .counts) _ n _ (c .len .ensures) (c .limit-of-limit .ensures) in
     record {
       meaning = made-as (c .args .counts) (counts-kept (c .new .result)) n _ (marks-kept (c .new .result)) (c .new .ensures .counts) limit (c .new .ensures .none);
-      length = refl;
-      past = ap (λ x. drop x (vec-items (c .args .row))) limit;
+      row = refl;
     }

@@ -1,4 +1,4 @@
-use mathlib.Core.Path.{_≡_, refl, ap, subst, sym, _∙_}
+use mathlib.Core.Path.{_≡_, ap, subst, sym, _∙_}
 use mathlib.Core.Bool.{true, false}
 use Prim.Native.Nat.{_+_, _≤_}
 use native.Mathlib.Omega.{arith}
@@ -10,7 +10,7 @@ use Rattle.book.specs.declared.refusal.EnterRefusal.the-variants.{Full}
 use Rattle.book_laws.proofs.Moves.{entered-by, entered-there, entered-refused, entering-there, entering-room, entering-full}
 use Rattle.list_book.specs.Listed.{listed}
 use Rattle.list_book.specs.ListBooks.{list-meaning, row-ties}
-use Rattle.list_book.proofs.Moves.{Stand, ties-stand, count, tie-in, none-lent, some-lent, same-front, grew-room, grew-front, full-lent, rest-now, placed, placed-stand}
+use Rattle.list_book.proofs.Moves.{Stand, ties-stand, count, tie-in, none-lent, some-lent, same-front, grew-room, grew-front, full-lent, row-same, row-grew, left-there, left-refused, written, placed, placed-stand}
 use Rattle.list_book.proofs.keeping.ListKeeping.enter.Needs as need
 
 pub ghost-self : need.ghost-self
@@ -54,7 +54,7 @@ returns-in-Present c =
       answer = sym ok;
       after = ap (λ ys. with-ties m (listed ys)) e ∙ entered-there m t ok there;
       held = λ u. u;
-      rest = (refl, rest-now b t _ ws lent (c .add .kept .row));
+      row = row-same b t _ ws lent (c .add .kept .row) (c .in-Present .ensures tt .1) ∙ sym (left-there b t there);
     }
 
 pub returns-in-Placed : need.returns-in-Placed
@@ -67,12 +67,13 @@ returns-in-Placed c =
     let ws = c .add .last .row in
     let grown = c .in-Placed .ensures tt .1 in
     let e = grew-front b t _ ws lent (c .add .kept .row) grown in
+    let none = none-lent b t _ ws lent (c .add .kept .row) (c .in-Placed .ensures tt .0) in
     let ok = entering-room m t w (omega (arith, count b, grew-room b t _ ws lent (c .add .kept .row) grown)) in
     record {
       answer = sym ok;
       after = entered-by m t _ ok (λ x y z. ap (λ ys. listed ys x y z) e ∙ placed (counts-kept (b .marks)) (row-ties b) t x y z);
       held = λ u. u;
-      rest = (refl, rest-now b t _ ws lent (c .add .kept .row));
+      row = row-grew b t _ ws lent (c .add .kept .row) grown ∙ sym (written b t ok none);
     }
 
 pub returns-in-Full : need.returns-in-Full
@@ -92,5 +93,5 @@ returns-in-Full c =
       answer = sym no;
       after = ap (λ ys. with-ties m (listed ys)) e ∙ entered-refused m t Full no;
       held = λ u. u;
-      rest = (refl, rest-now b t _ ws lent (c .add .kept .row));
+      row = row-same b t _ ws lent (c .add .kept .row) (c .in-Full .ensures tt .2) ∙ sym (left-refused b t Full no);
     }

@@ -1,9 +1,7 @@
-use mathlib.Core.Path.{_≡_, refl, ap, subst, sym}
+use mathlib.Core.Path.{_≡_, ap, subst, sym}
 use mathlib.Core.Bool.{false}
 use native.Mathlib.Omega.{arith}
 use Rattle.std.proofs.shelf.Ways.{tells}
-use Rattle.std.proofs.shelf.Lists.{drop-set-lt}
-use Rattle.std.specs.Of.Vec.{vec-items}
 use Rattle.std.specs.declared.option.Option.the-variants.{None}
 use Rattle.rows.specs.Rows.{FirstAt, Finds}
 use Rattle.book.specs.Calls.{has, ranged}
@@ -12,7 +10,7 @@ use Rattle.book_laws.proofs.Moves.{struck-by, struck-absent}
 use Rattle.book.specs.Ties.{same-tie}
 use Rattle.list_book.specs.ListBooks.{list-meaning, row-ties}
 use Rattle.list_book.proofs.Times.{absent-times, found-times}
-use Rattle.list_book.proofs.Moves.{tie-in, i-in, struck-moved, removed, removed-stand}
+use Rattle.list_book.proofs.Moves.{tie-in, struck-moved, taken-out, left-absent, removed, removed-stand}
 use Rattle.list_book.proofs.keeping.ListKeeping.strike.Needs as need
 
 pub ghost-self : need.ghost-self
@@ -39,7 +37,7 @@ returns-in-Some c =
       answer = sym (ap ranged w);
       after = struck-by m t _ w (removed n (row-ties b) t (b .once) _ moved);
       held = λ u. u;
-      rest = (refl, drop-set-lt (b .limit) (vec-items (b .row)) (c .in-Some .i) (c .index-last .result .now) (omega (arith, b .front, i-in b t (c .index-last .result .now) (c .in-Some .i) found (c .index-last .ensures))));
+      row = taken-out b t (c .index-last .result .now) (c .in-Some .i) found (c .index-last .ensures);
     }
 
 pub returns-in-rest : need.returns-in-rest
@@ -50,4 +48,4 @@ returns-in-rest c =
     let w = tie-in (counts-kept (b .marks)) _ t (c .counts .ensures) (c .in-Continue-check-tie .ensures tt) in
     let none = absent-times (row-ties b) t (subst (λ ys. Finds same-tie ys t None) (c .ties .ensures) (c .in-rest .ensures tt)) in
     let absent : has m t ≡ false = grind (arith, tells, none) in
-    record { answer = sym (ap ranged w); after = struck-absent m t w absent; held = λ u. u; rest = (refl, refl) }
+    record { answer = sym (ap ranged w); after = struck-absent m t w absent; held = λ u. u; row = left-absent b t absent }

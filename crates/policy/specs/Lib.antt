@@ -1,0 +1,9 @@
+pub mod Letters
+pub mod Table
+pub mod Free
+pub mod Anchor
+pub mod Numbers
+pub mod Steps
+pub mod Linking
+pub mod Proper
+pub mod Policies

@@ -1,0 +1,7 @@
+pub mod Bytes
+pub mod Operands
+pub mod Finding
+pub mod Telling
+pub mod OneWord
+pub mod OneAnswer
+pub mod Counted

@@ -1,0 +1,4 @@
+pub mod Rows
+pub mod Unique
+pub mod Decide
+pub mod Allows

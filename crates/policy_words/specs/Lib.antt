@@ -1,0 +1,3 @@
+pub mod Tree
+pub mod Due
+pub mod Shape
