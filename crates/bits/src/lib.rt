@@ -1,3 +1,5 @@
 // Rows of bits, 64 to a word.
+#![tactic(auto)]
+
 pub mod gather;
 pub mod rows;

@@ -1,5 +1,7 @@
 // A book of ties and mark facts among numbered names: what it means, and the two faces by which every
 // make of book is used.
+#![tactic(auto)]
+
 pub mod counts;
 pub mod faces;
 pub mod range;

@@ -1,4 +1,6 @@
 // A console that keeps a book: a line of commands in, an answer line out.
+#![tactic(auto)]
+
 mod answer;
 mod order;
 mod resolve;

@@ -1,4 +1,6 @@
 // A book that keeps its ties in a row of the caller's.
+#![tactic(auto)]
+
 ghost use Rattle.std.specs.Prelude.{◌≤◌, take, vec_len};
 ghost use Rattle.marks.specs.MarkBoards.{counts_kept};
 ghost use Rattle.list_book.specs.Listed.{Once, Inside, Counted};

@@ -1,4 +1,6 @@
 // A policy: the table of its words, each with the number of its second operand.
+#![tactic(auto)]
+
 pub mod entry;
 pub mod fault;
 pub mod letters;

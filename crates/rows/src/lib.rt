@@ -1,4 +1,6 @@
 // Finding a thing in a row and adding it, written once for every kind of thing that can tell sameness.
+#![tactic(auto)]
+
 ghost use Rattle.std.specs.Prelude.{◌≡◌, Bool, true, nat_eq};
 ghost use Rattle.rows.specs.Rows.{Finds, Adds};
 ghost use Rattle.std.proofs.Common.{rules};
@@ -19,7 +21,7 @@ pub trait Sameness {
 
 // The place of the first thing of `row` that is the same as `thing`, or none.
 pub fn find<T: Sameness>(row: &[T], thing: &T) -> Option<usize>
-    ensures { Finds same row.now thing.now result }
+    ensures { Finds T.same row.now thing.now result }
 {
     for (i, x) in row.iter().enumerate() {
         if x.is_same(thing) {
@@ -42,7 +44,7 @@ pub enum Added {
 
 // Puts `thing` after the first `used` things of `row`, unless it is among them or no place is left.
 pub fn add<T: Sameness + Copy>(row: &mut [T], used: usize, thing: T) -> Added
-    ensures { Adds same row.old row.new used thing result }
+    ensures { Adds T.same row.old row.new used thing result }
 {
     let held = used.min(row.len());
     if let Some(i) = find(&row[0..held], &thing) {

@@ -1,4 +1,5 @@
 // Tests of rolls and books, by tables: how many of how many pass.
+#![tactic(auto)]
 
 mod books;
 mod rolls;

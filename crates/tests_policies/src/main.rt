@@ -1,4 +1,6 @@
 // Tests of policy texts, by a table: how many of how many pass.
+#![tactic(auto)]
+
 mod table;
 
 use anyhow::anyhow;

@@ -12,12 +12,12 @@ returns-in-Some g c =
 pub returns-then-used-row : goal.returns-then-used-row
 returns-then-used-row g c =
     let e = held_part c.args.row.now c.args.used _ c.min-held.ensures in
-    (subst (λ ys. Finds g.T.Sameness.same ys c.args.thing None) e c.in-default.ensures, c.if-used-row.true, refl)
+    (subst (λ ys. Finds g.T.Sameness.same ys c.args.thing None) e c.in_default.ensures, c.if-used-row.true, refl)
 
 pub returns : goal.returns
 returns g c =
     let e = held_part c.args.row.now c.args.used _ c.min-held.ensures in (
-      subst (λ ys. Finds g.T.Sameness.same ys c.args.thing None) e c.in-default.ensures,
+      subst (λ ys. Finds g.T.Sameness.same ys c.args.thing None) e c.in_default.ensures,
       record {
         room = c.if-used-row.false;
         front = take_more_set c.args.row.now c.args.used c.args.thing c.if-used-row.false;

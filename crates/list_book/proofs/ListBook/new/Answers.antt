@@ -3,17 +3,17 @@ use Rattle.marks.specs.MarkBoards.{counts_kept, marks_kept}
 use Rattle.list_book.proofs.Opening.{once_nil, inside_nil, counted_nil, limit_is, limit-fits, made_as}
 use Rattle.list_book.proofs.ListBook.new.Goals as goal
 
-pub invariant-of-result : goal.invariant-of-result
-invariant-of-result c =
+pub invariant_of-result : goal.invariant_of-result
+invariant_of-result c =
     let n = vec_len c.args.row in
     let k = counts_kept c.new.result in
-    let limit = limit_is c.args.counts _ n _ c.len.ensures c.limit-of-limit.ensures in
+    let limit = limit_is c.args.counts _ n _ c.len.ensures c.limit_of-limit.ensures in
     (omega (arith, limit, limit-fits c.args.counts n), (omega arith, (once_nil, (inside_nil k, (counted_nil k, tt)))))
 
 pub returns : goal.returns
 returns c =
     let n = vec_len c.args.row in
-    let limit = limit_is c.args.counts _ n _ c.len.ensures c.limit-of-limit.ensures in
+    let limit = limit_is c.args.counts _ n _ c.len.ensures c.limit_of-limit.ensures in
     record {
       meaning = made_as c.args.counts (counts_kept c.new.result) n _ (marks_kept c.new.result) c.new.ensures.counts limit c.new.ensures.none;
       row = refl;

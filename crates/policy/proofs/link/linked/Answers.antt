@@ -18,5 +18,5 @@ loop-k-preserved c =
       length-set c.loop-k.table c.loop-k.k _ ∙ i.0,
       below_more _ _
           (λ j h t rest e. let ne : j ≢ c.loop-k.k = omega arith in rw get_or-set_other (i.1 j h t rest e))
-          (λ t rest e. let lt : c.loop-k.k < length c.loop-k.table = omega (arith, i.0, c.requires) in rw get_or-set_same (made _ _ _ t rest c.loop-k-test.true e (c.second-of.ensures t rest e))),
+          (λ t rest e. let lt : c.loop-k.k < length c.loop-k.table = omega (arith, i.0, c.requires) in rw get_or-set_same (made _ _ _ t rest c.loop-k-test.true e (c.second_of.ensures t rest e))),
     )

@@ -7,7 +7,7 @@ pub returns-then-operands-eq2 : goal.returns-then-operands-eq2
 returns-then-operands-eq2 c = λ x rest h.
     let s = rooted c.args.words.now c.args.at (W.Name 0) x rest c.requires.within h in
     let k = two _ _ _ _ _ s (omega (arith, counted _ _ _ _ _ s, c.operands.ensures)) in
-    (node x).second c.args.at ∙ ap (second_by c.args.at) k.is ∙ sym (c.end-of.ensures.ends k.kid _ k.at)
+    (node x).second c.args.at ∙ ap (second_by c.args.at) k.is ∙ sym (c.end_of.ensures.ends k.kid _ k.at)
 
 pub returns-else-operands-eq2 : goal.returns-else-operands-eq2
 returns-else-operands-eq2 c = λ x rest h.

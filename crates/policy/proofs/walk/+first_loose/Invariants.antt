@@ -1,5 +1,5 @@
 use Rattle.std.proofs.Common.{◌-◌, length}
 use Rattle.policy.proofs.walk.+first_loose.Given as goal
 
-abbrev pub decreases-first-loose : goal.decreases-first-loose
-decreases-first-loose l = length l.table.now - l.at
+abbrev pub decreases-first_loose : goal.decreases-first_loose
+decreases-first_loose l = length l.table.now - l.at

@@ -57,4 +57,4 @@ loop-piece-preserved c =
 pub returns : goal.returns
 returns c =
     let i = c.loop-piece.invariant in
-    record { few = i.0; long = i.1; within = i.2; spelled = i.3; stops = omega (arith, i.2, step_end c.loop-piece.len (words_of c.args.text.now) _ i.4 c.in-default.ensures.0) }
+    record { few = i.0; long = i.1; within = i.2; spelled = i.3; stops = omega (arith, i.2, step_end c.loop-piece.len (words_of c.args.text.now) _ i.4 c.in_default.ensures.0) }

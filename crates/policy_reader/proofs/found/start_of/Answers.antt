@@ -4,8 +4,8 @@ use Rattle.text.specs.Text.{words as words_of}
 use Rattle.policy_reader.proofs.Finding.{took_on, took_next}
 use Rattle.policy_reader.proofs.found.start_of.Goals as goal
 
-pub returns-in-default : goal.returns-in-default
-returns-in-default c = λ lt. absurd (omega (arith, step_end c.loop-n.n (words_of c.args.text.now) _ c.loop-n.invariant.0 c.in-default.ensures.0))
+pub returns-in_default : goal.returns-in_default
+returns-in_default c = λ lt. absurd (omega (arith, step_end c.loop-n.n (words_of c.args.text.now) _ c.loop-n.invariant.0 c.in_default.ensures.0))
 
 pub loop-n-preserved : goal.loop-n-preserved
 loop-n-preserved c =

@@ -11,7 +11,7 @@ loop-byte-preserved c =
     let i = c.loop-byte.byte-index in
     let lt = c.loop-byte-test.true in (
       digits_next w i lt c.loop-byte.invariant.0 c.if-b-lt48.false c.if-b-gt57.false,
-      value_next w i lt _ c.args.most _ c.loop-byte.invariant.1 c.one-more-digit-number.ensures,
+      value_next w i lt _ c.args.most _ c.loop-byte.invariant.1 c.one_more_digit-number.ensures,
     )
 
 pub returns-then-b-lt48 : goal.returns-then-b-lt48

@@ -6,4 +6,4 @@ pub returns-in-35 : goal.returns-in-35
 returns-in-35 c =
     let some : 1 ≤ length c.args.word.now = omega (arith, ltb-true, ltb-false) in
     let is : get_or c.args.word.now 0 0 ≡ 35 = search rules in
-    c.byte-number.ensures ∙ hash_digits c.args.word.now _ some is (omega arith)
+    c.byte_number.ensures ∙ hash_digits c.args.word.now _ some is (omega arith)

@@ -4,12 +4,12 @@ use Rattle.roll.specs.Lists.{numbered}
 use Rattle.roll.proofs.Walks.{step_word, step_on, step_there, step_end, front_step, front-none, front_full, walked, once, own_number, other_number}
 use Rattle.roll.proofs.lookup.is_distinct.Goals as goal
 
-pub returns-in-default : goal.returns-in-default
-returns-in-default c =
+pub returns-in_default : goal.returns-in_default
+returns-in_default c =
     let n = c.loop-n.n in
     let all = numbered c.args.text.now in
     let i = c.loop-n.invariant in
-    (λ _. walked n all (step_end n all _ i.0 (front-none n _ c.in-default.ensures.0)) i.1, λ _. refl)
+    (λ _. walked n all (step_end n all _ i.0 (front-none n _ c.in_default.ensures.0)) i.1, λ _. refl)
 
 pub returns-then-first-n : goal.returns-then-first-n
 returns-then-first-n c =
@@ -18,7 +18,7 @@ returns-then-first-n c =
     let i = c.loop-n.invariant in
     let s = front_step n _ _ _ c.loop-n-test.true c.in-Some.ensures.first in (
       λ e. absurd (false≢true e),
-      λ apart. absurd (other_number n all _ _ (step_there n _ all _ _ i.0 s) (step_word n _ all _ _ i.0 s) c.number-in.ensures (λ e. c.if-first-n.true (c.unwrap-or-first.ensures ∙ e)) apart),
+      λ apart. absurd (other_number n all _ _ (step_there n _ all _ _ i.0 s) (step_word n _ all _ _ i.0 s) c.number_in.ensures (λ e. c.if-first-n.true (c.unwrap_or-first.ensures ∙ e)) apart),
     )
 
 pub loop-n-preserved : goal.loop-n-preserved
@@ -29,7 +29,7 @@ loop-n-preserved c =
     let s = front_step n _ _ _ c.loop-n-test.true c.in-Some.ensures.first in
     let here = step_word n _ all _ _ i.0 s in (
       step_on n _ all _ _ i.0 s,
-      once n all _ here (own_number n all _ _ (step_there n _ all _ _ i.0 s) here c.number-in.ensures (sym c.unwrap-or-first.ensures ∙ c.if-first-n.false)) i.1,
+      once n all _ here (own_number n all _ _ (step_there n _ all _ _ i.0 s) here c.number_in.ensures (sym c.unwrap_or-first.ensures ∙ c.if-first-n.false)) i.1,
     )
 
 pub returns : goal.returns

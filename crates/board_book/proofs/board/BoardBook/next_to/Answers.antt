@@ -11,7 +11,7 @@ returns-then-zeros-left c =
     let ws = vec_items b.words in
     let w = c.gather.result in
     let i = c.place-i.result in
-    let row : (k : ℕ) → k < 64 → bit w k ≡ bit_set ws (i + k) = subst (λ us. (k : ℕ) → k < 64 → bit w k ≡ bit_set us (i + k)) c.as-slice.ensures.value c.gather.ensures in (
+    let row : (k : ℕ) → k < 64 → bit w k ≡ bit_set ws (i + k) = subst (λ us. (k : ℕ) → k < 64 → bit w k ≡ bit_set us (i + k)) c.as_slice.ensures.value c.gather.ensures in (
       omega arith,
       row_found cs ws c.args.label c.args.name c.args.at i w b.marks.named.1 c.requires c.place-i.ensures row (omega (arith, c.if-zeros-left.true, ap (λ x. x.names) c.counts.ensures)),
       λ k low lt. row_none cs ws c.args.label c.args.name c.args.at i w b.marks.named.1 c.requires c.place-i.ensures row k low (λ _. omega arith),
@@ -23,5 +23,5 @@ returns-else-zeros-left c k low =
     let ws = vec_items b.words in
     let w = c.gather.result in
     let i = c.place-i.result in
-    let row : (j : ℕ) → j < 64 → bit w j ≡ bit_set ws (i + j) = subst (λ us. (j : ℕ) → j < 64 → bit w j ≡ bit_set us (i + j)) c.as-slice.ensures.value c.gather.ensures in
+    let row : (j : ℕ) → j < 64 → bit w j ≡ bit_set ws (i + j) = subst (λ us. (j : ℕ) → j < 64 → bit w j ≡ bit_set us (i + j)) c.as_slice.ensures.value c.gather.ensures in
     row_none (counts_kept b.marks) ws c.args.label c.args.name c.args.at i w b.marks.named.1 c.requires c.place-i.ensures row k low (λ lt. omega (arith, c.if-zeros-left.false, ap (λ x. x.names) c.counts.ensures))

@@ -4,34 +4,34 @@ use Rattle.board_book.specs.Boards.{board_meaning}
 use Rattle.board_book.proofs.BoardMoves.{few_ties, turned_by, unturned_ties}
 use Rattle.board_book.proofs.board.BoardBook.put_tie.Goals as goal
 
-pub overflow-add-self : goal.overflow-add-self
-overflow-add-self c = omega (arith, few_ties c.args.self.now)
+pub overflow_add-self : goal.overflow_add-self
+overflow_add-self c = omega (arith, few_ties c.args.self.now)
 
-pub invariant-of-self : goal.invariant-of-self
-invariant-of-self c =
-    let t = turned_by c.args.self.now c.args.tie c.place-i.result c.args.value c.requires c.place-i.ensures c.as-slice.result.now c.is-set.result c.as-slice.ensures.value c.is-set.ensures c.if-is-set-value.true c.as-mut-slice.result.now c.flip.new.words c.as-mut-slice.ensures.value c.flip.auto.words c.flip.ensures.turned in
+pub invariant_of-self : goal.invariant_of-self
+invariant_of-self c =
+    let t = turned_by c.args.self.now c.args.tie c.place-i.result c.args.value c.requires c.place-i.ensures c.as_slice.result.now c.is_set.result c.as_slice.ensures.value c.is_set.ensures c.if-is_set-value.true c.as_mut_slice.result.now c.flip.new.words c.as_mut_slice.ensures.value c.flip.auto.words c.flip.ensures.turned in
     (c.args.self.now.enough, (t.more c.if-value.true, (t.clear, tt)))
 
-pub overflow-sub-self : goal.overflow-sub-self
-overflow-sub-self c =
-    ((turned_by c.args.self.now c.args.tie c.place-i.result c.args.value c.requires c.place-i.ensures c.as-slice.result.now c.is-set.result c.as-slice.ensures.value c.is-set.ensures c.if-is-set-value.true c.as-mut-slice.result.now c.flip.new.words c.as-mut-slice.ensures.value c.flip.auto.words c.flip.ensures.turned).less c.if-value.false).0
+pub overflow_sub-self : goal.overflow_sub-self
+overflow_sub-self c =
+    ((turned_by c.args.self.now c.args.tie c.place-i.result c.args.value c.requires c.place-i.ensures c.as_slice.result.now c.is_set.result c.as_slice.ensures.value c.is_set.ensures c.if-is_set-value.true c.as_mut_slice.result.now c.flip.new.words c.as_mut_slice.ensures.value c.flip.auto.words c.flip.ensures.turned).less c.if-value.false).0
 
-pub invariant-of-self-else-value : goal.invariant-of-self-else-value
-invariant-of-self-else-value c =
-    let t = turned_by c.args.self.now c.args.tie c.place-i.result c.args.value c.requires c.place-i.ensures c.as-slice.result.now c.is-set.result c.as-slice.ensures.value c.is-set.ensures c.if-is-set-value.true c.as-mut-slice.result.now c.flip.new.words c.as-mut-slice.ensures.value c.flip.auto.words c.flip.ensures.turned in
+pub invariant_of-self-else-value : goal.invariant_of-self-else-value
+invariant_of-self-else-value c =
+    let t = turned_by c.args.self.now c.args.tie c.place-i.result c.args.value c.requires c.place-i.ensures c.as_slice.result.now c.is_set.result c.as_slice.ensures.value c.is_set.ensures c.if-is_set-value.true c.as_mut_slice.result.now c.flip.new.words c.as_mut_slice.ensures.value c.flip.auto.words c.flip.ensures.turned in
     (c.args.self.now.enough, ((t.less c.if-value.false).1, (t.clear, tt)))
 
 pub returns-then-value : goal.returns-then-value
 returns-then-value c =
-    let t = turned_by c.args.self.now c.args.tie c.place-i.result c.args.value c.requires c.place-i.ensures c.as-slice.result.now c.is-set.result c.as-slice.ensures.value c.is-set.ensures c.if-is-set-value.true c.as-mut-slice.result.now c.flip.new.words c.as-mut-slice.ensures.value c.flip.auto.words c.flip.ensures.turned in
+    let t = turned_by c.args.self.now c.args.tie c.place-i.result c.args.value c.requires c.place-i.ensures c.as_slice.result.now c.is_set.result c.as_slice.ensures.value c.is_set.ensures c.if-is_set-value.true c.as_mut_slice.result.now c.flip.new.words c.as_mut_slice.ensures.value c.flip.auto.words c.flip.ensures.turned in
     record { after = ap (with_ties (board_meaning c.args.self.now)) t.ties; long = refl }
 
 pub returns-else-value : goal.returns-else-value
 returns-else-value c =
-    let t = turned_by c.args.self.now c.args.tie c.place-i.result c.args.value c.requires c.place-i.ensures c.as-slice.result.now c.is-set.result c.as-slice.ensures.value c.is-set.ensures c.if-is-set-value.true c.as-mut-slice.result.now c.flip.new.words c.as-mut-slice.ensures.value c.flip.auto.words c.flip.ensures.turned in
+    let t = turned_by c.args.self.now c.args.tie c.place-i.result c.args.value c.requires c.place-i.ensures c.as_slice.result.now c.is_set.result c.as_slice.ensures.value c.is_set.ensures c.if-is_set-value.true c.as_mut_slice.result.now c.flip.new.words c.as_mut_slice.ensures.value c.flip.auto.words c.flip.ensures.turned in
     record { after = ap (with_ties (board_meaning c.args.self.now)) t.ties; long = refl }
 
-pub returns-else-is-set-value : goal.returns-else-is-set-value
-returns-else-is-set-value c =
-    let same = unturned_ties c.args.self.now c.args.tie c.place-i.result c.args.value c.requires c.place-i.ensures c.as-slice.result.now c.is-set.result c.as-slice.ensures.value c.is-set.ensures c.if-is-set-value.false in
+pub returns-else-is_set-value : goal.returns-else-is_set-value
+returns-else-is_set-value c =
+    let same = unturned_ties c.args.self.now c.args.tie c.place-i.result c.args.value c.requires c.place-i.ensures c.as_slice.result.now c.is_set.result c.as_slice.ensures.value c.is_set.ensures c.if-is_set-value.false in
     record { after = ap (with_ties (board_meaning c.args.self.now)) same; long = refl }

@@ -10,25 +10,25 @@ use Rattle.list_book.specs.ListBooks.{list_meaning, row_ties}
 use Rattle.list_book.specs.Moves.{Stand, ties_stand, count, tie_in, none_lent, some_lent, same_front, grew_room, grew_front, full_lent, row_same, row_grew, left_there, left_refused, written, placed, placed_stand}
 use Rattle.list_book.proofs.keeping.ListBookKeeping.enter.Goals as goal
 
-pub invariant-of-self : goal.invariant-of-self
-invariant-of-self c =
+pub invariant_of-self : goal.invariant_of-self
+invariant_of-self c =
     let b = c.args.self.now in
-    let e = same_front b c.args.tie _ c.add.new.row c.as-mut-slice-row.ensures.value c.add.auto.row c.in-Present.ensures.1 in
+    let e = same_front b c.args.tie _ c.add.new.row c.as_mut_slice-row.ensures.value c.add.auto.row c.in-Present.ensures.1 in
     (b.room, (b.front, subst (λ xs. Stand (counts_kept b.marks) xs b.used) (sym e) (ties_stand b)))
 
-pub invariant-of-self-in-Full : goal.invariant-of-self-in-Full
-invariant-of-self-in-Full c =
+pub invariant_of-self-in-Full : goal.invariant_of-self-in-Full
+invariant_of-self-in-Full c =
     let b = c.args.self.now in
-    let e = same_front b c.args.tie _ c.add.new.row c.as-mut-slice-row.ensures.value c.add.auto.row c.in-Full.ensures.2 in
+    let e = same_front b c.args.tie _ c.add.new.row c.as_mut_slice-row.ensures.value c.add.auto.row c.in-Full.ensures.2 in
     (b.room, (b.front, subst (λ xs. Stand (counts_kept b.marks) xs b.used) (sym e) (ties_stand b)))
 
-pub invariant-of-self-in-Placed : goal.invariant-of-self-in-Placed
-invariant-of-self-in-Placed c =
+pub invariant_of-self-in-Placed : goal.invariant_of-self-in-Placed
+invariant_of-self-in-Placed c =
     let b = c.args.self.now in
     let t = c.args.tie in
     let n = counts_kept b.marks in
-    let w = tie_in n _ t c.counts.ensures c.in-ok-check-tie.ensures in
-    let lent = c.as-mut-slice-row.ensures.value in
+    let w = tie_in n _ t c.counts.ensures c.in_ok-check_tie.ensures in
+    let lent = c.as_mut_slice-row.ensures.value in
     let ws = c.add.new.row in
     let grown = c.in-Placed.ensures.1 in
     let none = none_lent b t _ ws lent c.add.auto.row c.in-Placed.ensures.0 in
@@ -40,8 +40,8 @@ returns-in-Present c =
     let b = c.args.self.now in
     let t = c.args.tie in
     let m = list_meaning b in
-    let w = tie_in (counts_kept b.marks) _ t c.counts.ensures c.in-ok-check-tie.ensures in
-    let lent = c.as-mut-slice-row.ensures.value in
+    let w = tie_in (counts_kept b.marks) _ t c.counts.ensures c.in_ok-check_tie.ensures in
+    let lent = c.as_mut_slice-row.ensures.value in
     let ws = c.add.new.row in
     let some = some_lent b t _ ws lent c.add.auto.row c.in-Present.field-0 c.in-Present.ensures.0 in
     let there : has m t ≡ true = grind (arith, nat_tests, some) in
@@ -59,8 +59,8 @@ returns-in-Placed c =
     let b = c.args.self.now in
     let t = c.args.tie in
     let m = list_meaning b in
-    let w = tie_in (counts_kept b.marks) _ t c.counts.ensures c.in-ok-check-tie.ensures in
-    let lent = c.as-mut-slice-row.ensures.value in
+    let w = tie_in (counts_kept b.marks) _ t c.counts.ensures c.in_ok-check_tie.ensures in
+    let lent = c.as_mut_slice-row.ensures.value in
     let ws = c.add.new.row in
     let grown = c.in-Placed.ensures.1 in
     let e = grew_front b t _ ws lent c.add.auto.row grown in
@@ -78,8 +78,8 @@ returns-in-Full c =
     let b = c.args.self.now in
     let t = c.args.tie in
     let m = list_meaning b in
-    let w = tie_in (counts_kept b.marks) _ t c.counts.ensures c.in-ok-check-tie.ensures in
-    let lent = c.as-mut-slice-row.ensures.value in
+    let w = tie_in (counts_kept b.marks) _ t c.counts.ensures c.in_ok-check_tie.ensures in
+    let lent = c.as_mut_slice-row.ensures.value in
     let ws = c.add.new.row in
     let none = none_lent b t _ ws lent c.add.auto.row c.in-Full.ensures.0 in
     let absent : has m t ≡ false = grind (arith, nat_tests, none) in

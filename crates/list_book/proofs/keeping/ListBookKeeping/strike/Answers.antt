@@ -10,12 +10,12 @@ use Rattle.list_book.specs.Times.{absent_times, found_times}
 use Rattle.list_book.specs.Moves.{tie_in, struck_moved, taken_out, left_absent, removed, removed_stand}
 use Rattle.list_book.proofs.keeping.ListBookKeeping.strike.Goals as goal
 
-pub invariant-of-self : goal.invariant-of-self
-invariant-of-self c =
+pub invariant_of-self : goal.invariant_of-self
+invariant_of-self c =
     let b = c.args.self.now in
     let t = c.args.tie in
     let n = counts_kept b.marks in
-    let w = tie_in n _ t c.counts.ensures c.in-ok-check-tie.ensures in
+    let w = tie_in n _ t c.counts.ensures c.in_ok-check_tie.ensures in
     let found = subst (λ ys. FirstAt same_tie ys t c.in-Some.i) c.ties.ensures c.in-Some.ensures in
     let moved = struck_moved b t c.index-last.result.now c.in-Some.i found c.index-last.ensures in
     let some = found_times (row_ties b) t c.in-Some.i found in
@@ -27,7 +27,7 @@ returns-in-Some c =
     let t = c.args.tie in
     let m = list_meaning b in
     let n = counts_kept b.marks in
-    let w = tie_in n _ t c.counts.ensures c.in-ok-check-tie.ensures in
+    let w = tie_in n _ t c.counts.ensures c.in_ok-check_tie.ensures in
     let found = subst (λ ys. FirstAt same_tie ys t c.in-Some.i) c.ties.ensures c.in-Some.ensures in
     let moved = struck_moved b t c.index-last.result.now c.in-Some.i found c.index-last.ensures in
     record {
@@ -37,12 +37,12 @@ returns-in-Some c =
       row = taken_out b t c.index-last.result.now c.in-Some.i found c.index-last.ensures;
     }
 
-pub returns-in-default : goal.returns-in-default
-returns-in-default c =
+pub returns-in_default : goal.returns-in_default
+returns-in_default c =
     let b = c.args.self.now in
     let t = c.args.tie in
     let m = list_meaning b in
-    let w = tie_in (counts_kept b.marks) _ t c.counts.ensures c.in-ok-check-tie.ensures in
-    let none = absent_times (row_ties b) t (subst (λ ys. Finds same_tie ys t None) c.ties.ensures c.in-default.ensures) in
+    let w = tie_in (counts_kept b.marks) _ t c.counts.ensures c.in_ok-check_tie.ensures in
+    let none = absent_times (row_ties b) t (subst (λ ys. Finds same_tie ys t None) c.ties.ensures c.in_default.ensures) in
     let absent : has m t ≡ false = grind (arith, nat_tests, none) in
     record { answer = sym (ap ranged w); after = struck-absent m t w absent; held = λ u. u; row = left_absent b t absent }

@@ -12,5 +12,5 @@ returns c =
     let b = c.args.self.now in
     let t = c.args.tie in
     let found = find_tells (row_ties b) t c.find.result (subst (λ ys. Finds same_tie ys t c.find.result) c.ties.ensures c.find.ensures) in
-    let within = tie_in (counts_kept b.marks) _ t c.counts.ensures c.in-ok-check-tie.ensures in
-    grind (arith, found, within, c.is-some.ensures)
+    let within = tie_in (counts_kept b.marks) _ t c.counts.ensures c.in_ok-check_tie.ensures in
+    grind (arith, found, within, c.is_some.ensures)

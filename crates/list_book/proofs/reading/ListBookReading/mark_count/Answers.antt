@@ -3,4 +3,4 @@ use Rattle.list_book.proofs.reading.ListBookReading.mark_count.Goals as goal
 
 pub returns : goal.returns
 unfolding marks_of
-returns c = c.mark-count.ensures
+returns c = c.mark_count.ensures

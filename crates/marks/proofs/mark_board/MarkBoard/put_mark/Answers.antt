@@ -8,45 +8,45 @@ use Rattle.book.specs.Meaning.{at2}
 use Rattle.marks.proofs.MarkMoves.{ranged_ok, differs, agrees, put_same, turned_marks, turned_more, turned_less, few_marks}
 use Rattle.marks.proofs.mark_board.MarkBoard.put_mark.Goals as goal
 
-pub overflow-add-self : goal.overflow-add-self
-overflow-add-self c = omega (arith, few_marks c.args.self.now)
+pub overflow_add-self : goal.overflow_add-self
+overflow_add-self c = omega (arith, few_marks c.args.self.now)
 
-pub invariant-of-self : goal.invariant-of-self
-invariant-of-self c =
+pub invariant_of-self : goal.invariant_of-self
+invariant_of-self c =
     let b = c.args.self.now in
     let long : length b.words ≡ 16 = search rules in
-    let within = ranged_ok (mark_within b.counts c.args.mark c.args.name) tt c.in-ok-check-mark.ensures in
-    let was = sym c.is-set.ensures ∙ differs c.is-set.result c.args.value c.if-is-set-value.true in
+    let within = ranged_ok (mark_within b.counts c.args.mark c.args.name) tt c.in_ok-check_mark.ensures in
+    let was = sym c.is_set.ensures ∙ differs c.is_set.result c.args.value c.if-is_set-value.true in
     (b.named, (b.few, (turned_more b c.flip.new.words c.args.mark c.args.name c.args.value within was long c.flip.ensures.turned c.if-value.true, tt)))
 
-pub overflow-sub-self : goal.overflow-sub-self
-overflow-sub-self c =
+pub overflow_sub-self : goal.overflow_sub-self
+overflow_sub-self c =
     let b = c.args.self.now in
     let long : length b.words ≡ 16 = search rules in
-    let within = ranged_ok (mark_within b.counts c.args.mark c.args.name) tt c.in-ok-check-mark.ensures in
-    let was = sym c.is-set.ensures ∙ differs c.is-set.result c.args.value c.if-is-set-value.true in
+    let within = ranged_ok (mark_within b.counts c.args.mark c.args.name) tt c.in_ok-check_mark.ensures in
+    let was = sym c.is_set.ensures ∙ differs c.is_set.result c.args.value c.if-is_set-value.true in
     (turned_less b c.flip.new.words c.args.mark c.args.name c.args.value within was long c.flip.ensures.turned c.if-value.false).0
 
-pub invariant-of-self-else-value : goal.invariant-of-self-else-value
-invariant-of-self-else-value c =
+pub invariant_of-self-else-value : goal.invariant_of-self-else-value
+invariant_of-self-else-value c =
     let b = c.args.self.now in
     let long : length b.words ≡ 16 = search rules in
-    let within = ranged_ok (mark_within b.counts c.args.mark c.args.name) tt c.in-ok-check-mark.ensures in
-    let was = sym c.is-set.ensures ∙ differs c.is-set.result c.args.value c.if-is-set-value.true in
+    let within = ranged_ok (mark_within b.counts c.args.mark c.args.name) tt c.in_ok-check_mark.ensures in
+    let was = sym c.is_set.ensures ∙ differs c.is_set.result c.args.value c.if-is_set-value.true in
     (b.named, (b.few, ((turned_less b c.flip.new.words c.args.mark c.args.name c.args.value within was long c.flip.ensures.turned c.if-value.false).1, tt)))
 
 pub returns-then-value : goal.returns-then-value
 returns-then-value c =
     let b = c.args.self.now in
     let long : length b.words ≡ 16 = search rules in
-    let within = ranged_ok (mark_within b.counts c.args.mark c.args.name) tt c.in-ok-check-mark.ensures in
-    let was = sym c.is-set.ensures ∙ differs c.is-set.result c.args.value c.if-is-set-value.true in
+    let within = ranged_ok (mark_within b.counts c.args.mark c.args.name) tt c.in_ok-check_mark.ensures in
+    let was = sym c.is_set.ensures ∙ differs c.is_set.result c.args.value c.if-is_set-value.true in
     record { answer = sym (ap ranged within); counts = refl; after = turned_marks b c.flip.new.words c.args.mark c.args.name c.args.value within was long c.flip.ensures.turned }
 
 pub returns-else-value : goal.returns-else-value
 returns-else-value c =
     let b = c.args.self.now in
     let long : length b.words ≡ 16 = search rules in
-    let within = ranged_ok (mark_within b.counts c.args.mark c.args.name) tt c.in-ok-check-mark.ensures in
-    let was = sym c.is-set.ensures ∙ differs c.is-set.result c.args.value c.if-is-set-value.true in
+    let within = ranged_ok (mark_within b.counts c.args.mark c.args.name) tt c.in_ok-check_mark.ensures in
+    let was = sym c.is_set.ensures ∙ differs c.is_set.result c.args.value c.if-is_set-value.true in
     record { answer = sym (ap ranged within); counts = refl; after = turned_marks b c.flip.new.words c.args.mark c.args.name c.args.value within was long c.flip.ensures.turned }

@@ -7,5 +7,5 @@ use Rattle.policy.proofs.Places.{tells_loose}
 use Rattle.policy.specs.Letters.{given}
 use Rattle.policy.proofs.policy.Policy.built_in.Goals as goal
 
-pub invariant-of-result : goal.invariant-of-result
-invariant-of-result c = (omega arith, (∣ (built_in, refl, record { few = omega arith; allowed = (tt, (tt, (tt, tt))); closed = tells_loose built_in given; anchored = a_not _ (at_requester _) }) ∣₁, tt))
+pub invariant_of-result : goal.invariant_of-result
+invariant_of-result c = (omega arith, (∣ (built_in, refl, record { few = omega arith; allowed = (tt, (tt, (tt, tt))); closed = tells_loose built_in given; anchored = a_not _ (at_requester _) }) ∣₁, tt))

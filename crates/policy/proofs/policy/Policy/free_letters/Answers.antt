@@ -6,8 +6,8 @@ use Rattle.policy.proofs.Walks.{below}
 use Rattle.policy.proofs.Whole.{written}
 use Rattle.policy.proofs.policy.Policy.free_letters.Goals as goal
 
-pub free-at-requires : goal.free-at-requires
-free-at-requires c =
+pub free_at-requires : goal.free_at-requires
+free_at-requires c =
     let p = c.args.self.now in
     let w = written (entries_of p) p.whole in
     let t = front p.len p.table ∙ w.1 in
@@ -18,4 +18,4 @@ pub returns : goal.returns
 returns c =
     let p = c.args.self.now in
     let w = written (entries_of p) p.whole in
-    (w.0, w.1, λ v. c.free-at.ensures w.0 (stands-whole w.0 _ (front p.len p.table ∙ w.1)) v)
+    (w.0, w.1, λ v. c.free_at.ensures w.0 (stands-whole w.0 _ (front p.len p.table ∙ w.1)) v)

@@ -9,64 +9,64 @@ use Rattle.policy.proofs.Making.{Ready, ready, from_start, has-given}
 use Rattle.policy.proofs.policy.Policy.of.Goals as goal
 use Rattle.policy.proofs.policy.Policy.of.Goals.{After-linked-table, In-default-first-stray}
 
-made : (c : After-linked-table) → Ready c.args.words.now c.linked-table.result c.in-ok-shape.ensures.told.1.0
-made c = let w = c.in-ok-shape.ensures.told in ready _ _ w.1.0 w.1.1 w.0 c.linked-table.ensures.long c.linked-table.ensures.heads
+made : (c : After-linked-table) → Ready c.args.words.now c.linked-table.result c.in_ok-shape.ensures.told.1.0
+made c = let w = c.in_ok-shape.ensures.told in ready _ _ w.1.0 w.1.1 w.0 c.linked-table.ensures.long c.linked-table.ensures.heads
 
-pub returns-in-err-shape : goal.returns-in-err-shape
-returns-in-err-shape c =
+pub returns-in_err-shape : goal.returns-in_err-shape
+returns-in_err-shape c =
     let p = err_from_is_err_and c.from-residual.result c.from-residual.ensures.1 in
-    rw (p.1, p.2) c.in-err-shape.ensures.told
+    rw (p.1, p.2) c.in_err-shape.ensures.told
 
 pub returns-in-Some : goal.returns-in-Some
-returns-in-Some c = let w = c.in-ok-shape.ensures.told in (w.1, w.0, c.in-Some.ensures)
+returns-in-Some c = let w = c.in_ok-shape.ensures.told in (w.1, w.0, c.in-Some.ensures)
 
-pub first-loose-requires : goal.first-loose-requires
-first-loose-requires c =
-    let m = made (goal.at.first-loose-requires c).After-linked-table in
+pub first_loose-requires : goal.first_loose-requires
+first_loose-requires c =
+    let m = made (goal.at.first_loose-requires c).After-linked-table in
     record { few = m.few; within = m.within; tree = (_, m.stands) }
 
-pub returns-in-Some-first-loose : goal.returns-in-Some-first-loose
-returns-in-Some-first-loose c =
-    let w = c.in-ok-shape.ensures.told in
-    let m = made (goal.at.returns-in-Some-first-loose c).After-linked-table in
-    (w.1.0, w.1.1, w.0, each_allows _ c.in-default.ensures, from_start _ _ _ (tells_loose w.1.0 given) (c.in-Some-first-loose.ensures w.1.0 given m.stands has-given))
+pub returns-in-Some-first_loose : goal.returns-in-Some-first_loose
+returns-in-Some-first_loose c =
+    let w = c.in_ok-shape.ensures.told in
+    let m = made (goal.at.returns-in-Some-first_loose c).After-linked-table in
+    (w.1.0, w.1.1, w.0, each_allows _ c.in_default.ensures, from_start _ _ _ (tells_loose w.1.0 given) (c.in-Some-first_loose.ensures w.1.0 given m.stands has-given))
 
-pub first-stray-requires : goal.first-stray-requires
-first-stray-requires c =
-    let m = made (goal.at.first-stray-requires c).After-linked-table in
+pub first_stray-requires : goal.first_stray-requires
+first_stray-requires c =
+    let m = made (goal.at.first_stray-requires c).After-linked-table in
     record { few = m.few; within = m.within; tree = (_, m.stands) }
 
-pub returns-in-Some-first-stray : goal.returns-in-Some-first-stray
-returns-in-Some-first-stray c =
-    let w = c.in-ok-shape.ensures.told in
-    let m = made (goal.at.returns-in-Some-first-stray c).After-linked-table in (
+pub returns-in-Some-first_stray : goal.returns-in-Some-first_stray
+returns-in-Some-first_stray c =
+    let w = c.in_ok-shape.ensures.told in
+    let m = made (goal.at.returns-in-Some-first_stray c).After-linked-table in (
       w.1.0,
       w.1.1,
       w.0,
-      each_allows _ c.in-default.ensures,
-      from_start _ _ _ (tells_loose w.1.0 given) (c.in-default-first-loose.ensures w.1.0 given m.stands has-given),
-      from_start _ _ _ (tells_stray w.1.0) (c.in-Some-first-stray.ensures w.1.0 m.stands),
+      each_allows _ c.in_default.ensures,
+      from_start _ _ _ (tells_loose w.1.0 given) (c.in_default-first_loose.ensures w.1.0 given m.stands has-given),
+      from_start _ _ _ (tells_stray w.1.0) (c.in-Some-first_stray.ensures w.1.0 m.stands),
     )
 
-proper : (c : In-default-first-stray) → Proper c.in-ok-shape.ensures.told.1.0
+proper : (c : In-default-first-stray) → Proper c.in_ok-shape.ensures.told.1.0
 proper c =
-    let w = c.in-ok-shape.ensures.told in
+    let w = c.in_ok-shape.ensures.told in
     let m = ready _ _ w.1.0 w.1.1 w.0 c.linked-table.ensures.long c.linked-table.ensures.heads in
     record {
       few = omega (arith, w.0, ap length w.1.1);
-      allowed = subst EachAllowed (sym w.1.1) (each_allows _ c.in-default.ensures);
-      closed = from_start _ _ _ (tells_loose w.1.0 given) (c.in-default-first-loose.ensures w.1.0 given m.stands has-given);
-      anchored = nowhere_anchored _ (from_start _ _ _ (tells_stray w.1.0) (c.in-default-first-stray.ensures w.1.0 m.stands));
+      allowed = subst EachAllowed (sym w.1.1) (each_allows _ c.in_default.ensures);
+      closed = from_start _ _ _ (tells_loose w.1.0 given) (c.in_default-first_loose.ensures w.1.0 given m.stands has-given);
+      anchored = nowhere_anchored _ (from_start _ _ _ (tells_stray w.1.0) (c.in_default-first_stray.ensures w.1.0 m.stands));
     }
 
-pub invariant-of-result : goal.invariant-of-result
-invariant-of-result c =
-    let w = c.in-ok-shape.ensures.told in
-    let m = made (goal.at.invariant-of-result c).After-linked-table in
-    (w.0, (∣ (w.1.0, m.whole, proper (goal.at.invariant-of-result c).In-default-first-stray) ∣₁, tt))
+pub invariant_of-result : goal.invariant_of-result
+invariant_of-result c =
+    let w = c.in_ok-shape.ensures.told in
+    let m = made (goal.at.invariant_of-result c).After-linked-table in
+    (w.0, (∣ (w.1.0, m.whole, proper (goal.at.invariant_of-result c).In-default-first_stray) ∣₁, tt))
 
 pub returns : goal.returns
 returns c =
-    let w = c.in-ok-shape.ensures.told in
+    let w = c.in_ok-shape.ensures.told in
     let m = made (goal.at.returns c).After-linked-table in
-    (w.1.0, (w.1.1, proper (goal.at.returns c).In-default-first-stray), m.whole)
+    (w.1.0, (w.1.1, proper (goal.at.returns c).In-default-first_stray), m.whole)

@@ -11,20 +11,20 @@ use Rattle.roll.proofs.list.List.check.Goals.{then-is-err-via-then-is-err, then-
 pub returns-in-Some : goal.returns-in-Some
 returns-in-Some c =
     let ws = words c.args.text.now in
-    let v = word_fault c.args.self ws c.in-Some.fault (sym c.first-fault.ensures ∙ c.in-Some.is) in
+    let v = word_fault c.args.self ws c.in-Some.fault (sym c.first_fault.ensures ∙ c.in-Some.is) in
     let t = list_as_told c.args.self ws (Some (Word c.in-Some.fault)) v in
     record { value = v; count = tt; told = t.0; only = t.1 }
 
-pub returns-then-is-err : goal.returns-then-is-err
-returns-then-is-err c =
+pub returns-then-is_err : goal.returns-then-is_err
+returns-then-is_err c =
     let ws = words c.args.text.now in
     let list = c.args.self in
-    let n = c.count-in-count.result in
-    let fine = sym c.first-fault.ensures ∙ c.in-default.is in
-    let test = sym (c.is-err.ensures.value ∙ ap is_err (c.check.ensures ∙ ap checked c.alone.ensures)) in
-    let v : Some CountOrRepeat ≡ _ = elim c.then-is-err.branch [
-      | then-is-err-via-then-is-err w ↦ outside list ws n c.count-in-count.ensures fine (test ∙ w.if-is-err.true)
-      | then-is-err-via-else-is-err+then-not-is-distinct w ↦ repeated list ws n c.count-in-count.ensures fine (not_from_Decides _ w.is-distinct.ensures w.if-not-is-distinct.true)
+    let n = c.count_in-count.result in
+    let fine = sym c.first_fault.ensures ∙ c.in_default.is in
+    let test = sym (c.is_err.ensures.value ∙ ap is_err (c.check.ensures ∙ ap checked c.alone.ensures)) in
+    let v : Some CountOrRepeat ≡ _ = elim c.then-is_err.branch [
+      | then-is-err-via-then-is-err w ↦ outside list ws n c.count_in-count.ensures fine (test ∙ w.if-is_err.true)
+      | then-is-err-via-else-is-err+then-not-is-distinct w ↦ repeated list ws n c.count_in-count.ensures fine (not_from_Decides _ w.is_distinct.ensures w.if-not-is_distinct.true)
     ] in
     let t = list_as_told list ws (Some CountOrRepeat) v in
     record { value = v; count = tt; told = t.0; only = t.1 }
@@ -33,9 +33,9 @@ pub returns : goal.returns
 returns c =
     let ws = words c.args.text.now in
     let list = c.args.self in
-    let n = c.count-in-count.result in
-    let fine = sym c.first-fault.ensures ∙ c.in-default.is in
-    let test = sym (c.is-err.ensures.value ∙ ap is_err (c.check.ensures ∙ ap checked c.alone.ensures)) ∙ c.if-is-err.false in
-    let v = accepted list ws n c.count-in-count.ensures fine test (c.is-distinct.ensures.0 c.if-not-is-distinct.false) in
+    let n = c.count_in-count.result in
+    let fine = sym c.first_fault.ensures ∙ c.in_default.is in
+    let test = sym (c.is_err.ensures.value ∙ ap is_err (c.check.ensures ∙ ap checked c.alone.ensures)) ∙ c.if-is_err.false in
+    let v = accepted list ws n c.count_in-count.ensures fine test (c.is_distinct.ensures.0 c.if-not-is_distinct.false) in
     let t = list_as_told list ws None v in
-    record { value = v; count = exact list ws n c.count-in-count.ensures fine test; told = t.0; only = t.1 }
+    record { value = v; count = exact list ws n c.count_in-count.ensures fine test; told = t.0; only = t.1 }

@@ -7,11 +7,11 @@ use Rattle.roll.proofs.roll.Roll.counts.Goals as goal
 pub returns : goal.returns
 returns c =
     let r = c.args.self.now in
-    let is = counts-is r _ _ _ c.count-in.ensures c.count-in-2.ensures c.count-in-3.ensures in
+    let is = counts-is r _ _ _ c.count_in.ensures c.count_in-2.ensures c.count_in-3.ensures in
     record {
       value = is;
       within = λ h. subst Within (sym is) (counts-within r h);
-      names = λ h. c.count-in.ensures ∙ counted Names _ (h Names);
-      labels = λ h. c.count-in-2.ensures ∙ counted Labels _ (h Labels);
-      marks = λ h. c.count-in-3.ensures ∙ counted Marks _ (h Marks);
+      names = λ h. c.count_in.ensures ∙ counted Names _ (h Names);
+      labels = λ h. c.count_in-2.ensures ∙ counted Labels _ (h Labels);
+      marks = λ h. c.count_in-3.ensures ∙ counted Marks _ (h Marks);
     }

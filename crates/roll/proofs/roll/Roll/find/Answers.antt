@@ -7,7 +7,7 @@ pub returns : goal.returns
 returns c =
     let r = c.args.self.now in
     let w = c.args.word.now in
-    let is = c.number-in.ensures ∙ ap (λ t. place_of w (numbered t)) c.text.ensures in
+    let is = c.number_in.ensures ∙ ap (λ t. place_of w (numbered t)) c.text.ensures in
     record {
       value = is;
       back = number_back r c.args.list w _ is;

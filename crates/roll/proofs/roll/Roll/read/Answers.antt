@@ -4,43 +4,43 @@ use Rattle.std.proofs.lemmas.Result.{MatchResult-from_err}
 use Rattle.roll.proofs.Faults.{roll_as_told, told_err, fault_in_names, fault_in_labels, fault_in_marks, no_fault, sound_by}
 use Rattle.roll.proofs.roll.Roll.read.Goals as goal
 
-pub returns-in-err-check-list : goal.returns-in-err-check-list
-returns-in-err-check-list c =
+pub returns-in_err-check_list : goal.returns-in_err-check_list
+returns-in_err-check_list c =
     let n = c.args.names.now in
     let l = c.args.labels.now in
     let m = c.args.marks.now in
     let r = c.from-residual.result in
-    let f = c.in-err-check-list.field-0.0 in
-    let e = c.in-err-check-list.ensures in
+    let f = c.in_err-check_list.field-0.0 in
+    let e = c.in_err-check_list.ensures in
     let v = told_err n l m r f c.from-residual.ensures.1 (fault_in_names n l m f e.0 e.1) in
     let t = roll_as_told n l m (result_err r) v in
     let err = c.from-residual.ensures.0 in
     record { value = v; holds = MatchResult-from_err r _ _ err (λ _. tt); sound = MatchResult-from_err r _ _ err (λ _. tt); told = t.0; only = t.1 }
 
-pub returns-in-err-check-list-2 : goal.returns-in-err-check-list-2
-returns-in-err-check-list-2 c =
+pub returns-in_err-check_list-2 : goal.returns-in_err-check_list-2
+returns-in_err-check_list-2 c =
     let n = c.args.names.now in
     let l = c.args.labels.now in
     let m = c.args.marks.now in
-    let r = c.from-residual-in-err-check-list-2.result in
-    let f = c.in-err-check-list-2.field-0.0 in
-    let e = c.in-err-check-list-2.ensures in
-    let v = told_err n l m r f c.from-residual-in-err-check-list-2.ensures.1 (fault_in_labels n l m f c.in-ok-check-list.ensures e.0 e.1) in
+    let r = c.from-residual-in_err-check_list-2.result in
+    let f = c.in_err-check_list-2.field-0.0 in
+    let e = c.in_err-check_list-2.ensures in
+    let v = told_err n l m r f c.from-residual-in_err-check_list-2.ensures.1 (fault_in_labels n l m f c.in_ok-check_list.ensures e.0 e.1) in
     let t = roll_as_told n l m (result_err r) v in
-    let err = c.from-residual-in-err-check-list-2.ensures.0 in
+    let err = c.from-residual-in_err-check_list-2.ensures.0 in
     record { value = v; holds = MatchResult-from_err r _ _ err (λ _. tt); sound = MatchResult-from_err r _ _ err (λ _. tt); told = t.0; only = t.1 }
 
-pub returns-in-err-check-list-3 : goal.returns-in-err-check-list-3
-returns-in-err-check-list-3 c =
+pub returns-in_err-check_list-3 : goal.returns-in_err-check_list-3
+returns-in_err-check_list-3 c =
     let n = c.args.names.now in
     let l = c.args.labels.now in
     let m = c.args.marks.now in
-    let r = c.from-residual-in-err-check-list-3.result in
-    let f = c.in-err-check-list-3.field-0.0 in
-    let e = c.in-err-check-list-3.ensures in
-    let v = told_err n l m r f c.from-residual-in-err-check-list-3.ensures.1 (fault_in_marks n l m f c.in-ok-check-list.ensures c.in-ok-check-list-2.ensures e.0 e.1) in
+    let r = c.from-residual-in_err-check_list-3.result in
+    let f = c.in_err-check_list-3.field-0.0 in
+    let e = c.in_err-check_list-3.ensures in
+    let v = told_err n l m r f c.from-residual-in_err-check_list-3.ensures.1 (fault_in_marks n l m f c.in_ok-check_list.ensures c.in_ok-check_list-2.ensures e.0 e.1) in
     let t = roll_as_told n l m (result_err r) v in
-    let err = c.from-residual-in-err-check-list-3.ensures.0 in
+    let err = c.from-residual-in_err-check_list-3.ensures.0 in
     record { value = v; holds = MatchResult-from_err r _ _ err (λ _. tt); sound = MatchResult-from_err r _ _ err (λ _. tt); told = t.0; only = t.1 }
 
 pub returns : goal.returns
@@ -48,7 +48,7 @@ returns c =
     let n = c.args.names.now in
     let l = c.args.labels.now in
     let m = c.args.marks.now in
-    let v = no_fault n l m c.in-ok-check-list.ensures c.in-ok-check-list-2.ensures c.in-ok-check-list-3.ensures in
+    let v = no_fault n l m c.in_ok-check_list.ensures c.in_ok-check_list-2.ensures c.in_ok-check_list-3.ensures in
     let t = roll_as_told n l m None v in
     record {
       value = v;

@@ -10,8 +10,8 @@ returns c =
     let r = c.args.self.now in
     let list = c.args.list in
     let n = c.args.number in
-    let is = c.word-in.ensures ∙ ap (λ t. slice_get (numbered t) n) c.text.ensures in
+    let is = c.word_in.ensures ∙ ap (λ t. slice_get (numbered t) n) c.text.ensures in
     record {
       value = is;
-      there = λ h. lent (λ x. x.now) c.word-in.result _ (λ w. (n < length (words_of r list)) × (number_of r list w ≡ Some n)) (word_number r list n _ is h);
+      there = λ h. lent (λ x. x.now) c.word_in.result _ (λ w. (n < length (words_of r list)) × (number_of r list w ≡ Some n)) (word_number r list n _ is h);
     }

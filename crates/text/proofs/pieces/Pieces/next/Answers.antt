@@ -8,11 +8,11 @@ use Rattle.text.proofs.pieces.Pieces.next.Goals.{then-end-rest, else-end-rest}
 pub returns : goal.returns
 returns c =
     let p = c.args.self.now in
-    let e = c.first-place-end.ensures in
+    let e = c.first_place-end.ensures in
     let t = p.text.now in
     let is = take_rest t p.at in
     let rest = take (length t - p.at) (drop p.at t) in
-    let r = c.first-place-end.result in
+    let r = c.first_place-end.result in
     let w = take r rest in
     elim c.if-end-rest.branch [
       | then-end-rest v ↦ record {

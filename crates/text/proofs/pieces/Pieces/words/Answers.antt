@@ -7,7 +7,7 @@ pub returns : goal.returns
 returns c =
     let t = c.args.text.now in
     record {
-      value = words_left c.is-empty.result t c.is-empty.ensures;
+      value = words_left c.is_empty.result t c.is_empty.ensures;
       starts = refl;
       holds = refl;
       none = no_words t;
