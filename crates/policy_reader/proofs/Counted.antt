@@ -1,7 +1,7 @@
 -- The numbers of words that a text spells are below the counts of the roll.
 use Rattle.std.proofs.Common.{◌≡◌, ℕ, ◌<◌, min, List as Seq, [], ◌∷◌, length, take, Some, Ok, sym, refl, ap, ◌∙◌, subst, arith}
 use Rattle.std.proofs.lemmas.List.{length-take}
-use Rattle.text.specs.Text.{words as words_of}
+use Rattle.text.specs.Text.{words as text_words}
 use Rattle.roll.specs.Lists.{numbered}
 use Rattle.roll.specs.Rolls.{text_of, words_of, counts_of, number_of}
 use Rattle.roll.specs.declared.list.List.{List}
@@ -40,4 +40,4 @@ all_below r (v ∷ vs) [] h = absurd h
 all_below r (v ∷ vs) (b ∷ bs) h = (below r v h.0.0 h.0.2, all_below r vs bs h.1)
 
 pub each_below : (r : Roll) (t : Seq ℕ) (f : Formula) → Told r t (Ok f) → EachBelow (counts_of r) (words f)
-each_below r t f h = all_below r (words f) (words_of t) h.0.0
+each_below r t f h = all_below r (words f) (text_words t) h.0.0

@@ -2,7 +2,7 @@
 use Rattle.std.proofs.Common.{◌≡◌, ℕ, ◌+◌, ◌<◌, ◌≤◌, ◌⊎◌, List, [], ◌∷◌, ◌++◌, length, get_or, take, drop, Ok, Err, Result, sym, refl, ap, ◌∙◌, subst, inl, inr, append_assoc, append-nil, arith, take-append-drop}
 use Rattle.std.proofs.lemmas.List.{take_more, take_all, get_or-take, length-take-le, take-take}
 use Rattle.std.proofs.lemmas.Bool.{cases_lt}
-use Rattle.text.specs.Text.{words as words_of, start_of}
+use Rattle.text.specs.Text.{words as text_words, start_of}
 use Rattle.roll.specs.declared.roll.Roll.{Roll}
 use Rattle.policy_words.specs.Tree.{Formula, words, Whole, Begins, Unfinished}
 use Rattle.policy_words.specs.declared.word.Word.{Word}
@@ -45,7 +45,7 @@ open_begins vs u = (u.0, u.1 ∷ u.2, u.3)
 
 module _ (r : Roll) (t : List ℕ) where
   abbrev ws : List (List ℕ)
-  ws = words_of t
+  ws = text_words t
 
   -- the words vs are read, and the word after them, if there is one, is not
   record Halt (k : ℕ) (vs : List Word) : Type 0 where

@@ -1,7 +1,7 @@
 -- From the words that were found to what is to be told.
 use Rattle.std.proofs.Common.{◌≡◌, ℕ, zero, suc, ◌+◌, ◌-◌, ◌<◌, ◌≤◌, ◌⊎◌, List, [], ◌∷◌, ◌++◌, length, get_or, take, Ok, Err, Result, sym, refl, ap, ◌∙◌, subst, inl, inr, arith, MatchResult}
 use Rattle.std.proofs.lemmas.List.{take_more, take_all, get_or-take, length-take-le, take-take}
-use Rattle.text.specs.Text.{words as words_of, start_of}
+use Rattle.text.specs.Text.{words as text_words, start_of}
 use Rattle.roll.specs.declared.roll.Roll.{Roll}
 use Rattle.policy_words.specs.Tree.{Formula, words, Whole, Begins, Unfinished, Allowed}
 use Rattle.policy_words.specs.declared.shape.ShapeFault.{ShapeFault}
@@ -68,7 +68,7 @@ front n l = ap (λ k. take k l) (omega arith)
 
 module _ (r : Roll) (t : List ℕ) (x : Found) (fd : Finds r t x) where
   abbrev ws : List (List ℕ)
-  ws = words_of t
+  ws = text_words t
 
   abbrev vs : List Word
   vs = take x.len x.words

@@ -1,6 +1,6 @@
 -- How the words that were found and what comes after them make the answer.
 use Rattle.std.specs.Prelude.{◌≡◌, ℕ, ◌<◌, List, length, Ok, Err, Result, MatchResult}
-use Rattle.text.specs.Text.{words as words_of, start_of}
+use Rattle.text.specs.Text.{words as text_words, start_of}
 use Rattle.policy_words.specs.declared.shape.ShapeFault.{ShapeFault}
 use Rattle.policy_words.specs.declared.shape.ShapeFault.TheVariants as S
 use Rattle.policy.specs.declared.fault.WordsFault.{WordsFault}
@@ -26,14 +26,14 @@ short_fault n (Err f) = P.Word f
 
 -- the answer for words that make no formula
 abbrev pub ShapeRefused : List ℕ → ShapeFault → Result Rest WordFault → Result Policy PolicyFault → Type 0
-ShapeRefused t (S.Kind k) stop x = k < length (words_of t) → x ≡ Err (P.Kind (start_of k (words_of t)))
+ShapeRefused t (S.Kind k) stop x = k < length (text_words t) → x ≡ Err (P.Kind (start_of k (text_words t)))
 ShapeRefused t S.Short stop x = x ≡ Err (short_fault (length t) stop)
-ShapeRefused t (S.After k) stop x = k < length (words_of t) → x ≡ Err (P.After (start_of k (words_of t)))
+ShapeRefused t (S.After k) stop x = k < length (text_words t) → x ≡ Err (P.After (start_of k (text_words t)))
 ShapeRefused t S.TooMany stop x = Unit {0}
 
 -- the answer for words that make no policy
 abbrev pub Refused : List ℕ → WordsFault → Result Rest WordFault → Result Policy PolicyFault → Type 0
 Refused t (F.Shape s) stop x = ShapeRefused t s stop x
 Refused t (F.Number k) stop x = Unit {0}
-Refused t (F.Loose k) stop x = MatchResult (after_fault stop) (λ _. k < length (words_of t) → x ≡ Err (P.Loose (start_of k (words_of t)))) (λ e. x ≡ Err e)
-Refused t (F.Unanchored k) stop x = MatchResult (after_fault stop) (λ _. k < length (words_of t) → x ≡ Err (P.Unanchored (start_of k (words_of t)))) (λ e. x ≡ Err e)
+Refused t (F.Loose k) stop x = MatchResult (after_fault stop) (λ _. k < length (text_words t) → x ≡ Err (P.Loose (start_of k (text_words t)))) (λ e. x ≡ Err e)
+Refused t (F.Unanchored k) stop x = MatchResult (after_fault stop) (λ _. k < length (text_words t) → x ≡ Err (P.Unanchored (start_of k (text_words t)))) (λ e. x ≡ Err e)

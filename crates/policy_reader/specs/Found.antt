@@ -1,6 +1,6 @@
 -- The words that were found in a text before the first that is faulty by itself.
 use Rattle.std.specs.Prelude.{◌≡◌, ℕ, ◌<◌, ◌≤◌, List, [], length, take, Ok, Err, Result, slice_index_or}
-use Rattle.text.specs.Text.{words as words_of, start_of}
+use Rattle.text.specs.Text.{words as text_words, start_of}
 use Rattle.roll.specs.declared.roll.Roll.{Roll}
 use Rattle.policy_reader.specs.Spell.{Wrong}
 use Rattle.policy_reader.specs.Told.{EachSpells}
@@ -18,6 +18,6 @@ Stops r ws n (Err f) = (n < length ws) × (n < 64) × (f.at ≡ start_of n ws) �
 pub record Finds (r : Roll) (t : List ℕ) (x : Found) : Type 0 where
   pub few : x.len ≤ 64
   pub long : length x.words ≡ 64
-  pub within : x.len ≤ length (words_of t)
-  pub spelled : EachSpells r (take x.len x.words) (take x.len (words_of t))
-  pub stops : Stops r (words_of t) x.len x.stop
+  pub within : x.len ≤ length (text_words t)
+  pub spelled : EachSpells r (take x.len x.words) (take x.len (text_words t))
+  pub stops : Stops r (text_words t) x.len x.stop

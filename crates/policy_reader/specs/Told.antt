@@ -1,6 +1,6 @@
 -- What is to be told of a text under a roll: the formula that it spells, or the first fault.
 use Rattle.std.specs.Prelude.{◌≡◌, ℕ, ◌+◌, ◌<◌, ◌≤◌, List, [], ◌∷◌, ◌++◌, length, take, Ok, Err, Result, slice_index_or}
-use Rattle.text.specs.Text.{words as words_of, start_of}
+use Rattle.text.specs.Text.{words as text_words, start_of}
 use Rattle.book.specs.declared.counts.Counts.{Counts}
 use Rattle.roll.specs.declared.roll.Roll.{Roll}
 use Rattle.policy_words.specs.Tree.{Formula, words, Whole, Begins, Unfinished}
@@ -24,17 +24,17 @@ EachSpells r (w ∷ ws) (b ∷ bs) = Spells r w b × EachSpells r ws bs
 
 -- the words of the text t spell the formula, which has at most 64 words
 abbrev pub Spelled : Roll → List ℕ → Formula → Type 0
-Spelled r t f = EachSpells r (words f) (words_of t) × (length (words_of t) ≤ 64)
+Spelled r t f = EachSpells r (words f) (text_words t) × (length (text_words t) ≤ 64)
 
 -- word k of the text begins at the byte n, and the words before it spell vs
 pub record Reaches (r : Roll) (t : List ℕ) (k n : ℕ) (vs : List Word) : Type 0 where
-  pub there : k < length (words_of t)
-  pub place : n ≡ start_of k (words_of t)
-  pub before : EachSpells r vs (take k (words_of t))
+  pub there : k < length (text_words t)
+  pub place : n ≡ start_of k (text_words t)
+  pub before : EachSpells r vs (take k (text_words t))
 
 -- the bytes of word k
 abbrev pub word_at : List ℕ → ℕ → List ℕ
-word_at t k = slice_index_or (words_of t) k []
+word_at t k = slice_index_or (text_words t) k []
 
 -- what is to be told
 abbrev pub Told : Roll → List ℕ → Result Formula PolicyFault → Type 0
@@ -49,11 +49,11 @@ Told r t (Err (P.Word f)) = (k : ℕ) × (vs : List Word) × Reaches r t k f.at 
 -- it spells a word with which no formula goes on
 Told r t (Err (P.Kind n)) = (k : ℕ) × (vs : List Word) × Reaches r t k n vs × (k < 64) × Unfinished vs × ((w : Word) × Spells r w (word_at t k) × (Begins (vs ++ w ∷ []) → ⊥))
 -- all words of the text begin a formula that has more
-Told r t (Err (P.Short n)) = (vs : List Word) × EachSpells r vs (words_of t) × (length (words_of t) ≤ 64) × Unfinished vs × (n ≡ length t)
+Told r t (Err (P.Short n)) = (vs : List Word) × EachSpells r vs (text_words t) × (length (text_words t) ≤ 64) × Unfinished vs × (n ≡ length t)
 -- the first loose word of the formula
-Told r t (Err (P.Loose n)) = (f : Formula) × (k : ℕ) × Spelled r t f × First (Loose given f) k × (n ≡ start_of k (words_of t))
+Told r t (Err (P.Loose n)) = (f : Formula) × (k : ℕ) × Spelled r t f × First (Loose given f) k × (n ≡ start_of k (text_words t))
 -- the first word that keeps a closed formula from being anchored
-Told r t (Err (P.Unanchored n)) = (f : Formula) × (k : ℕ) × Spelled r t f × Closed f × First (Stray f) k × (n ≡ start_of k (words_of t))
+Told r t (Err (P.Unanchored n)) = (f : Formula) × (k : ℕ) × Spelled r t f × Closed f × First (Stray f) k × (n ≡ start_of k (text_words t))
 
 -- the reader gave this
 abbrev pub Gave : Result Policy PolicyFault → Result Formula PolicyFault → Type 0

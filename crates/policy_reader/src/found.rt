@@ -1,6 +1,6 @@
 // The words of a text, up to the first that is faulty by itself.
 ghost use Rattle.std.specs.Prelude.{◌≡◌, ◌<◌, length};
-ghost use Rattle.text.specs.Text.{words as words_of, start_of};
+ghost use Rattle.text.specs.Text.{words as text_words, start_of};
 ghost use Rattle.policy_reader.specs.Found.{Finds};
 
 use crate::fault::WordFault;
@@ -53,7 +53,7 @@ pub fn find_words(roll: &Roll, text: &[u8]) -> Found
 
 // The byte at which word k of the text begins, where it has such a word.
 pub fn start_of(text: &[u8], k: usize) -> usize
-    ensures { k < length (words_of text.now) → result ≡ start_of k (words_of text.now) }
+    ensures { k < length (text_words text.now) → result ≡ start_of k (text_words text.now) }
 {
     let mut pieces = Pieces::words(text);
     for n in 0..k {

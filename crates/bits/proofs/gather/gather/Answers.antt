@@ -6,4 +6,4 @@ returns-then-low-eq0 c k lt = gathered_whole c.args.words.now c.args.i k c.word.
 
 pub returns-else-low-eq0 : goal.returns-else-low-eq0
 returns-else-low-eq0 c k lt =
-    gathered_parts c.args.words.now c.args.i k c.word.result lt c.word.ensures c.word-else-low-eq0.result c.if-low-eq0.false c.word.type-inv c.word-else-low-eq0.ensures
+    gathered_parts c.args.words.now c.args.i k c.word.result lt c.word.ensures c.word-else-low-eq0.result c.if-low-eq0.false c.word.type_inv c.word-else-low-eq0.ensures

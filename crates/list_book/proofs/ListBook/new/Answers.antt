@@ -8,7 +8,7 @@ invariant_of-result c =
     let n = vec_len c.args.row in
     let k = counts_kept c.new.result in
     let limit = limit_is c.args.counts _ n _ c.len.ensures c.limit_of-limit.ensures in
-    (omega (arith, limit, limit-fits c.args.counts n), (omega arith, (once_nil, (inside_nil k, (counted_nil k, tt)))))
+    record { room = omega (arith, limit, limit-fits c.args.counts n); front = omega arith; once = once_nil; inside = inside_nil k; counted = counted_nil k }
 
 pub returns : goal.returns
 returns c =

@@ -1,13 +1,13 @@
 use Rattle.std.proofs.Common.{◌≡◌, sym, ◌∙◌, subst, arith, length-set}
 use Rattle.roll.proofs.Walks.{step_end}
-use Rattle.text.specs.Text.{words as words_of}
+use Rattle.text.specs.Text.{words as text_words}
 use Rattle.policy_reader.specs.Spell.{Wrong}
 use Rattle.policy_reader.proofs.Finding.{each_more, took_there, took_word, took_on, took_at, took_next}
 use Rattle.policy_reader.proofs.found.find_words.Goals as goal
 
 pub returns-then-len-eq64 : goal.returns-then-len-eq64
 returns-then-len-eq64 c =
-    let ws = words_of c.args.text.now in
+    let ws = text_words c.args.text.now in
     let n = c.loop-piece.len in
     let t = c.in-Some.ensures in
     let i = c.loop-piece.invariant in
@@ -21,7 +21,7 @@ returns-then-len-eq64 c =
 
 pub returns-in-Err : goal.returns-in-Err
 returns-in-Err c =
-    let ws = words_of c.args.text.now in
+    let ws = text_words c.args.text.now in
     let n = c.loop-piece.len in
     let t = c.in-Some.ensures in
     let i = c.loop-piece.invariant in
@@ -41,7 +41,7 @@ returns-in-Err c =
 
 pub loop-piece-preserved : goal.loop-piece-preserved
 loop-piece-preserved c =
-    let ws = words_of c.args.text.now in
+    let ws = text_words c.args.text.now in
     let n = c.loop-piece.len in
     let t = c.in-Some.ensures in
     let i = c.loop-piece.invariant in
@@ -57,4 +57,4 @@ loop-piece-preserved c =
 pub returns : goal.returns
 returns c =
     let i = c.loop-piece.invariant in
-    record { few = i.0; long = i.1; within = i.2; spelled = i.3; stops = omega (arith, i.2, step_end c.loop-piece.len (words_of c.args.text.now) _ i.4 c.in_default.ensures.0) }
+    record { few = i.0; long = i.1; within = i.2; spelled = i.3; stops = omega (arith, i.2, step_end c.loop-piece.len (text_words c.args.text.now) _ i.4 c.in_default.ensures.0) }

@@ -14,13 +14,12 @@ invariant_of-result c =
     let cs = counts_kept c.new-marks.result in
     let asked : c.fitted_counts.result ≡ fitted c.args.counts (vec_len c.args.words) = c.fitted_counts.ensures ∙ ap (fitted c.args.counts) c.len.ensures in
     let counts = new_counts c.args.counts cs c.fitted_counts.result (vec_len c.args.words) asked c.new-marks.ensures.counts in
-    let clear = cleared c.args.words rs c.fill.new.self c.as_mut_slice.ensures.value (c.fill.ensures.after (λ y e. e)) in (
-      subst (λ x. possible x ≤ vec_len c.args.words * 64) (sym counts) (new_enough c.args.counts (vec_len c.args.words)),
-      (
-        subst (λ us. CountedTies cs us 0) (sym clear) (untied_counted cs (length rs)),
-        (λ i past. ap (λ us. bit_set us i) clear ∙ unlit (length rs) i, tt),
-      ),
-    )
+    let clear = cleared c.args.words rs c.fill.new.self c.as_mut_slice.ensures.value (c.fill.ensures.after (λ y e. e)) in
+    record {
+      enough = subst (λ x. possible x ≤ vec_len c.args.words * 64) (sym counts) (new_enough c.args.counts (vec_len c.args.words));
+      counted = subst (λ us. CountedTies cs us 0) (sym clear) (untied_counted cs (length rs));
+      clear = λ i past. ap (λ us. bit_set us i) clear ∙ unlit (length rs) i;
+    }
 
 pub returns : goal.returns
 returns c =

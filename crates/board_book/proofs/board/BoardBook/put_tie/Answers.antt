@@ -10,7 +10,7 @@ overflow_add-self c = omega (arith, few_ties c.args.self.now)
 pub invariant_of-self : goal.invariant_of-self
 invariant_of-self c =
     let t = turned_by c.args.self.now c.args.tie c.place-i.result c.args.value c.requires c.place-i.ensures c.as_slice.result.now c.is_set.result c.as_slice.ensures.value c.is_set.ensures c.if-is_set-value.true c.as_mut_slice.result.now c.flip.new.words c.as_mut_slice.ensures.value c.flip.auto.words c.flip.ensures.turned in
-    (c.args.self.now.enough, (t.more c.if-value.true, (t.clear, tt)))
+    record { enough = c.args.self.now.enough; counted = t.more c.if-value.true; clear = t.clear }
 
 pub overflow_sub-self : goal.overflow_sub-self
 overflow_sub-self c =
@@ -19,7 +19,7 @@ overflow_sub-self c =
 pub invariant_of-self-else-value : goal.invariant_of-self-else-value
 invariant_of-self-else-value c =
     let t = turned_by c.args.self.now c.args.tie c.place-i.result c.args.value c.requires c.place-i.ensures c.as_slice.result.now c.is_set.result c.as_slice.ensures.value c.is_set.ensures c.if-is_set-value.true c.as_mut_slice.result.now c.flip.new.words c.as_mut_slice.ensures.value c.flip.auto.words c.flip.ensures.turned in
-    (c.args.self.now.enough, ((t.less c.if-value.false).1, (t.clear, tt)))
+    record { enough = c.args.self.now.enough; counted = (t.less c.if-value.false).1; clear = t.clear }
 
 pub returns-then-value : goal.returns-then-value
 returns-then-value c =

@@ -14,13 +14,15 @@ pub invariant_of-self : goal.invariant_of-self
 invariant_of-self c =
     let b = c.args.self.now in
     let e = same_front b c.args.tie _ c.add.new.row c.as_mut_slice-row.ensures.value c.add.auto.row c.in-Present.ensures.1 in
-    (b.room, (b.front, subst (λ xs. Stand (counts_kept b.marks) xs b.used) (sym e) (ties_stand b)))
+    let s = subst (λ xs. Stand (counts_kept b.marks) xs b.used) (sym e) (ties_stand b) in
+    record { room = b.room; front = b.front; once = s.0; inside = s.1.0; counted = s.1.1.0 }
 
 pub invariant_of-self-in-Full : goal.invariant_of-self-in-Full
 invariant_of-self-in-Full c =
     let b = c.args.self.now in
     let e = same_front b c.args.tie _ c.add.new.row c.as_mut_slice-row.ensures.value c.add.auto.row c.in-Full.ensures.2 in
-    (b.room, (b.front, subst (λ xs. Stand (counts_kept b.marks) xs b.used) (sym e) (ties_stand b)))
+    let s = subst (λ xs. Stand (counts_kept b.marks) xs b.used) (sym e) (ties_stand b) in
+    record { room = b.room; front = b.front; once = s.0; inside = s.1.0; counted = s.1.1.0 }
 
 pub invariant_of-self-in-Placed : goal.invariant_of-self-in-Placed
 invariant_of-self-in-Placed c =
@@ -33,7 +35,8 @@ invariant_of-self-in-Placed c =
     let grown = c.in-Placed.ensures.1 in
     let none = none_lent b t _ ws lent c.add.auto.row c.in-Placed.ensures.0 in
     let e = grew_front b t _ ws lent c.add.auto.row grown in
-    (b.room, (omega (arith, grew_room b t _ ws lent c.add.auto.row grown), subst (λ xs. Stand n xs (b.used + 1)) (sym e) (placed_stand n (row_ties b) t w b.used none (ties_stand b))))
+    let s = subst (λ xs. Stand n xs (b.used + 1)) (sym e) (placed_stand n (row_ties b) t w b.used none (ties_stand b)) in
+    record { room = b.room; front = omega (arith, grew_room b t _ ws lent c.add.auto.row grown); once = s.0; inside = s.1.0; counted = s.1.1.0 }
 
 pub returns-in-Present : goal.returns-in-Present
 returns-in-Present c =

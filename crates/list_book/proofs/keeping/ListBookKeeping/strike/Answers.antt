@@ -19,7 +19,8 @@ invariant_of-self c =
     let found = subst (λ ys. FirstAt same_tie ys t c.in-Some.i) c.ties.ensures c.in-Some.ensures in
     let moved = struck_moved b t c.index-last.result.now c.in-Some.i found c.index-last.ensures in
     let some = found_times (row_ties b) t c.in-Some.i found in
-    (b.room, (omega (arith, b.front), removed_stand n (row_ties b) t b.once _ moved b.used w some b.inside b.counted))
+    let s = removed_stand n (row_ties b) t b.once _ moved b.used w some b.inside b.counted in
+    record { room = b.room; front = omega (arith, b.front); once = s.0; inside = s.1.0; counted = s.1.1.0 }
 
 pub returns-in-Some : goal.returns-in-Some
 returns-in-Some c =

@@ -3,7 +3,7 @@ use Rattle.marks.specs.MarkBoards.{counts_kept}
 use Rattle.list_book.specs.ListBooks.{row_ties}
 use Rattle.list_book.proofs.Seeking.{lowest_nil, turn_none, turn_less, turn_more, all_seen, none_found, next_in}
 use Rattle.list_book.proofs.reading.ListBookReading.next.Goals as goal
-use Rattle.list_book.proofs.reading.ListBookReading.next.Goals.{in-Some+then-at-other+then-other-lowest, in-Some+else-at-other, else-at-other-via-then-at-other+else-other-lowest, else-at-other-via-else-at-other, in-default}
+use Rattle.list_book.proofs.reading.ListBookReading.next.Goals.{in-Some+then-at-other+then-other-lowest, in-Some+else-at-other, else-at-other-via-then-at-other+else-other-lowest, else-at-other-via-else-at-other, in_default}
 
 pub loop-tie-init : goal.loop-tie-init
 loop-tie-init c = lowest_nil c.args.label c.args.dir c.args.name c.args.at c.counts-counts.result.names
@@ -19,7 +19,7 @@ loop-tie-preserved c =
       | in-Some+else-at-other w ↦
           turn_more xs i _ lt c.args.label c.args.dir c.args.name c.args.at _ c.loop-tie.lowest _ c.loop-tie.invariant w.in-Some.other w.lowest-is w.in-Some.ensures
           (λ le less. elim w.else-at-other.branch [ else-at-other-via-then-at-other+else-other-lowest w' ↦ omega (arith, w'.if-other-lowest.false, less) | else-at-other-via-else-at-other w' ↦ omega (arith, w'.if-at-other.false, le) ])
-      | in-default w ↦
+      | in_default w ↦
           turn_none xs i _ lt c.args.label c.args.dir c.args.name c.args.at _ c.loop-tie.lowest _ c.loop-tie.invariant w.lowest-is w.in_default.ensures
     ]
 

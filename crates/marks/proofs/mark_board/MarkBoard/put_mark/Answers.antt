@@ -17,7 +17,7 @@ invariant_of-self c =
     let long : length b.words ≡ 16 = search rules in
     let within = ranged_ok (mark_within b.counts c.args.mark c.args.name) tt c.in_ok-check_mark.ensures in
     let was = sym c.is_set.ensures ∙ differs c.is_set.result c.args.value c.if-is_set-value.true in
-    (b.named, (b.few, (turned_more b c.flip.new.words c.args.mark c.args.name c.args.value within was long c.flip.ensures.turned c.if-value.true, tt)))
+    record { named = b.named; few = b.few; counted = turned_more b c.flip.new.words c.args.mark c.args.name c.args.value within was long c.flip.ensures.turned c.if-value.true }
 
 pub overflow_sub-self : goal.overflow_sub-self
 overflow_sub-self c =
@@ -33,7 +33,7 @@ invariant_of-self-else-value c =
     let long : length b.words ≡ 16 = search rules in
     let within = ranged_ok (mark_within b.counts c.args.mark c.args.name) tt c.in_ok-check_mark.ensures in
     let was = sym c.is_set.ensures ∙ differs c.is_set.result c.args.value c.if-is_set-value.true in
-    (b.named, (b.few, ((turned_less b c.flip.new.words c.args.mark c.args.name c.args.value within was long c.flip.ensures.turned c.if-value.false).1, tt)))
+    record { named = b.named; few = b.few; counted = (turned_less b c.flip.new.words c.args.mark c.args.name c.args.value within was long c.flip.ensures.turned c.if-value.false).1 }
 
 pub returns-then-value : goal.returns-then-value
 returns-then-value c =

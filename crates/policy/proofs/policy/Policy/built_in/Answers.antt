@@ -8,4 +8,8 @@ use Rattle.policy.specs.Letters.{given}
 use Rattle.policy.proofs.policy.Policy.built_in.Goals as goal
 
 pub invariant_of-result : goal.invariant_of-result
-invariant_of-result c = (omega arith, (∣ (built_in, refl, record { few = omega arith; allowed = (tt, (tt, (tt, tt))); closed = tells_loose built_in given; anchored = a_not _ (at_requester _) }) ∣₁, tt))
+invariant_of-result c =
+    record {
+      fits = omega arith;
+      whole = ∣ (built_in, refl, record { few = omega arith; allowed = (tt, (tt, (tt, tt))); closed = tells_loose built_in given; anchored = a_not _ (at_requester _) }) ∣₁;
+    }

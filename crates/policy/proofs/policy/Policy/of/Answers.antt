@@ -7,14 +7,14 @@ use Rattle.policy.specs.Proper.{Proper}
 use Rattle.policy.proofs.Places.{tells_loose, tells_stray, nowhere_anchored}
 use Rattle.policy.proofs.Making.{Ready, ready, from_start, has-given}
 use Rattle.policy.proofs.policy.Policy.of.Goals as goal
-use Rattle.policy.proofs.policy.Policy.of.Goals.{After-linked-table, In-default-first-stray}
+use Rattle.policy.proofs.policy.Policy.of.Goals.{After-linked-table, In_default-first_stray}
 
 made : (c : After-linked-table) → Ready c.args.words.now c.linked-table.result c.in_ok-shape.ensures.told.1.0
 made c = let w = c.in_ok-shape.ensures.told in ready _ _ w.1.0 w.1.1 w.0 c.linked-table.ensures.long c.linked-table.ensures.heads
 
 pub returns-in_err-shape : goal.returns-in_err-shape
 returns-in_err-shape c =
-    let p = err_from_is_err_and c.from-residual.result c.from-residual.ensures.1 in
+    let p = err_from_is_err_and c.from_residual.result c.from_residual.ensures.1 in
     rw (p.1, p.2) c.in_err-shape.ensures.told
 
 pub returns-in-Some : goal.returns-in-Some
@@ -48,7 +48,7 @@ returns-in-Some-first_stray c =
       from_start _ _ _ (tells_stray w.1.0) (c.in-Some-first_stray.ensures w.1.0 m.stands),
     )
 
-proper : (c : In-default-first-stray) → Proper c.in_ok-shape.ensures.told.1.0
+proper : (c : In_default-first_stray) → Proper c.in_ok-shape.ensures.told.1.0
 proper c =
     let w = c.in_ok-shape.ensures.told in
     let m = ready _ _ w.1.0 w.1.1 w.0 c.linked-table.ensures.long c.linked-table.ensures.heads in
@@ -63,10 +63,10 @@ pub invariant_of-result : goal.invariant_of-result
 invariant_of-result c =
     let w = c.in_ok-shape.ensures.told in
     let m = made (goal.at.invariant_of-result c).After-linked-table in
-    (w.0, (∣ (w.1.0, m.whole, proper (goal.at.invariant_of-result c).In-default-first_stray) ∣₁, tt))
+    record { fits = w.0; whole = ∣ (w.1.0, m.whole, proper (goal.at.invariant_of-result c).In_default-first_stray) ∣₁ }
 
 pub returns : goal.returns
 returns c =
     let w = c.in_ok-shape.ensures.told in
     let m = made (goal.at.returns c).After-linked-table in
-    (w.1.0, (w.1.1, proper (goal.at.returns c).In-default-first_stray), m.whole)
+    (w.1.0, (w.1.1, proper (goal.at.returns c).In_default-first_stray), m.whole)

@@ -6,7 +6,7 @@ use Rattle.roll.specs.Lists.{alone, fault_then, distinct}
 use Rattle.roll.specs.declared.list.ListFault.TheVariants.{Word, CountOrRepeat}
 use Rattle.roll.proofs.Faults.{list_as_told, word_fault, outside, repeated, exact, accepted}
 use Rattle.roll.proofs.list.List.check.Goals as goal
-use Rattle.roll.proofs.list.List.check.Goals.{then-is-err-via-then-is-err, then-is-err-via-else-is-err+then-not-is-distinct}
+use Rattle.roll.proofs.list.List.check.Goals.{then-is_err-via-then-is_err, then-is_err-via-else-is_err+then-not-is_distinct}
 
 pub returns-in-Some : goal.returns-in-Some
 returns-in-Some c =
@@ -23,8 +23,8 @@ returns-then-is_err c =
     let fine = sym c.first_fault.ensures ∙ c.in_default.is in
     let test = sym (c.is_err.ensures.value ∙ ap is_err (c.check.ensures ∙ ap checked c.alone.ensures)) in
     let v : Some CountOrRepeat ≡ _ = elim c.then-is_err.branch [
-      | then-is-err-via-then-is-err w ↦ outside list ws n c.count_in-count.ensures fine (test ∙ w.if-is_err.true)
-      | then-is-err-via-else-is-err+then-not-is-distinct w ↦ repeated list ws n c.count_in-count.ensures fine (not_from_Decides _ w.is_distinct.ensures w.if-not-is_distinct.true)
+      | then-is_err-via-then-is_err w ↦ outside list ws n c.count_in-count.ensures fine (test ∙ w.if-is_err.true)
+      | then-is_err-via-else-is_err+then-not-is_distinct w ↦ repeated list ws n c.count_in-count.ensures fine (not_from_Decides _ w.is_distinct.ensures w.if-not-is_distinct.true)
     ] in
     let t = list_as_told list ws (Some CountOrRepeat) v in
     record { value = v; count = tt; told = t.0; only = t.1 }
