@@ -1,12 +1,12 @@
 -- What a book means after a tie or a mark fact moved, for any make.
-use Rattle.std.proofs.Common.{◌≡◌, ℕ, ◌+◌, ◌<◌, ◌≤◌, Bool, true, false, cond, ◌&&◌, ◌||◌, eqb, ltb, is_ok, Ok, Err, Result, sym, refl, ap, ◌∙◌, subst, arith}
+use Rattle.std.proofs.Common.{◌≡◌, ℕ, ◌<◌, ◌≤◌, Bool, true, false, cond, is_ok, Ok, Err, sym, refl, ap, ◌∙◌, arith}
 use mathlib.Core.Path.{fun_ext}
 use Rattle.std.proofs.lemmas.Bool.Decides.{nat_tests}
 use Rattle.book.specs.declared.tie.Tie.{Tie}
 use Rattle.book.specs.declared.refusal.EnterRefusal.{EnterRefusal}
 use Rattle.book.specs.declared.refusal.EnterRefusal.TheVariants.{Full}
 use Rattle.book.specs.Meaning.{Meaning, ties_of, at3, at2, with_ties, with_marks}
-use Rattle.book.specs.Calls.{entering, entered, striking, struck, tie_within, has, mark_within, marked_as}
+use Rattle.book.specs.Calls.{entering, entered, struck, tie_within, has, mark_within, marked_as}
 
 pub fun_ext2 : {p q : ℕ → ℕ → Bool} → ((x y : ℕ) → p x y ≡ q x y) → p ≡ q
 fun_ext2 h = fun_ext (λ x. fun_ext (λ y. h x y))

@@ -1,9 +1,9 @@
 -- The steps of making a policy from words.
-use Rattle.std.proofs.Common.{◌≡◌, ℕ, zero, suc, ◌+◌, ◌-◌, ◌<◌, ◌≤◌, Bool, true, false, ◌&&◌, ◌⊎◌, List, [], ◌∷◌, ◌++◌, length, get_or, take, drop, Some, None, Option, sym, refl, ap, ◌∙◌, subst, inl, inr, arith}
+use Rattle.std.proofs.Common.{◌≡◌, ℕ, zero, suc, ◌+◌, ◌-◌, ◌<◌, ◌≤◌, true, false, List, [], ◌∷◌, ◌++◌, length, get_or, take, drop, Some, None, Option, sym, refl, ap, ◌∙◌, subst, inl, inr, arith}
 use borrow.Rule.Slice.PartMut.{mid_of}
-use Rattle.std.proofs.lemmas.List.{take_more, take_all, get_or-take, length-take-le}
+use Rattle.std.proofs.lemmas.List.{take_more, get_or-take, length-take-le}
 use Rattle.std.proofs.lemmas.Bool.{and_parts, and_from, true≢false, cases_lt}
-use Rattle.policy_words.specs.Tree.{Formula, words, Allowed, allowed, each_allowed}
+use Rattle.policy_words.specs.Tree.{Formula, words, allowed, each_allowed}
 use Rattle.policy_words.specs.declared.word.Word.{Word}
 use Rattle.policy_words.specs.declared.word.Word.TheVariants.{Name}
 use Rattle.policy_words.proofs.Allows.{allows}

@@ -1,13 +1,13 @@
 -- First places: the functions and the relations, and what the relations say.
-use Rattle.std.proofs.Common.{◌≡◌, ℕ, ◌+◌, ◌<◌, ◌≤◌, Bool, true, false, cond, not, ◌&&◌, ◌||◌, eqb, ◌⊎◌, length, Some, None, Option, sym, refl, ap, ◌∙◌, subst, inl, inr, arith, length-append}
-use Rattle.std.proofs.lemmas.Bool.{true≢false, false≢true, cases_Bool, eqb-true, and_parts, and_from, not-true}
-use Rattle.policy_words.specs.Tree.{Formula, Path, words, steps}
+use Rattle.std.proofs.Common.{◌≡◌, ℕ, ◌+◌, ◌<◌, ◌≤◌, Bool, true, false, cond, not, ◌&&◌, ◌||◌, eqb, ◌⊎◌, Some, None, Option, sym, refl, ap, ◌∙◌, subst, inl, inr, arith, length-append}
+use Rattle.std.proofs.lemmas.Bool.{true≢false, false≢true, eqb-true}
+use Rattle.policy_words.specs.Tree.{Formula, words, steps}
 use Rattle.policy_words.specs.Tree.Formula.{is, same, has, neg, both, either, at_letter, at_name, bind, some}
 use Rattle.policy_words.specs.declared.word.Letter.{Letter}
 use Rattle.policy_words.specs.declared.word.Letter.TheVariants as L
 use Rattle.policy.specs.Letters.{number, alike, given, setting}
 use Rattle.policy.specs.Table.{size, extent}
-use Rattle.policy.specs.Free.{free, Later, Loose, First, Nowhere, Closed, first, later, first_loose, ClosedIsFree}
+use Rattle.policy.specs.Free.{free, Later, Loose, First, Nowhere, first, later, first_loose, ClosedIsFree}
 use Rattle.policy.specs.Anchor.{Anchored, Stray, first_stray, AnchoredIsAstrayNowhere}
 use Rattle.policy.specs.Anchor.Anchored.{at_requester, at_resource, not as a_not, and as a_and, or as a_or}
 

@@ -1,13 +1,12 @@
 -- A tree by its first word and the trees under it.
-use Rattle.std.proofs.Common.{◌≡◌, ℕ, zero, suc, ◌+◌, ◌-◌, ◌<◌, ◌≤◌, ◌⊎◌, List, [], ◌∷◌, ◌++◌, length, get_or, take, drop, sym, refl, ap, ◌∙◌, subst, inl, inr, append_assoc, append-nil, arith, length-append, length-drop}
+use Rattle.std.proofs.Common.{◌≡◌, ℕ, suc, ◌+◌, ◌<◌, ◌≤◌, List, [], ◌∷◌, ◌++◌, length, get_or, drop, sym, refl, ap, ◌∙◌, inl, inr, append_assoc, append-nil, arith, length-append, length-drop}
 use Rattle.std.proofs.lemmas.List.{drop_more, drop-drop, drop_at}
-use Rattle.policy_words.specs.Tree.{Formula, Path, words, steps}
 use Rattle.policy_words.specs.Due.{paths_of, formulas_of}
 use Rattle.policy_words.specs.Tree.Formula.{is, same, has, neg, both, either, at_letter, at_name, bind, some}
 use Rattle.policy_words.specs.Tree.Path.{forward, backward, seq, plus, stay}
 use Rattle.policy_words.specs.declared.word.Word.{Word}
 use Rattle.policy_words.specs.declared.word.Word.TheVariants as W
-use Rattle.policy_words.proofs.Rows.{len0, len1, len2, heads}
+use Rattle.policy_words.proofs.Rows.{len1, len2, heads}
 use Rattle.policy.specs.Linking.{Tree, write, enter, head}
 use Rattle.policy.specs.declared.entry.Entry.{Entry}
 

@@ -1,5 +1,5 @@
 -- A table against the words that it is made from.
-use Rattle.std.proofs.Common.{◌≡◌, ℕ, zero, suc, ◌+◌, ◌-◌, ◌<◌, ◌≤◌, ◌⊎◌, List, [], ◌∷◌, ◌++◌, map, length, get_or, take, drop, sym, refl, ap, ◌∙◌, subst, inl, inr, append_assoc, append-nil, add-zero, arith, length-append, length-drop}
+use Rattle.std.proofs.Common.{◌≡◌, ℕ, zero, suc, ◌+◌, ◌-◌, ◌<◌, ◌≤◌, List, [], ◌∷◌, ◌++◌, map, length, get_or, take, drop, sym, refl, ap, ◌∙◌, subst, inl, inr, append_assoc, append-nil, arith, length-append, length-drop}
 use Rattle.std.proofs.lemmas.List.{drop_more, drop-drop, drop_at, get_or_append_left, get_or-append_right, ext_get_or, length-take-le, map-append, get_or-take}
 use Rattle.std.proofs.lemmas.Bool.{cases_lt, cases_eq}
 use Rattle.policy_words.specs.Tree.{Formula, Path, words, steps}
@@ -8,7 +8,7 @@ use Rattle.policy_words.specs.Tree.Path.{forward, backward, seq, plus, stay}
 use Rattle.policy_words.specs.declared.word.Word.{Word}
 use Rattle.policy_words.specs.declared.word.Word.TheVariants as W
 use Rattle.policy_words.proofs.Rows.{heads}
-use Rattle.policy.specs.Table.{size, extent, plain, joint, entries, path_entries, words_in, Reads, PathStands, Stands}
+use Rattle.policy.specs.Table.{size, extent, plain, entries, path_entries, words_in, Reads, PathStands, Stands}
 use Rattle.policy.specs.Linking.{Tree, write, enter, head}
 use Rattle.policy.specs.declared.entry.Entry.{Entry}
 use Rattle.policy.proofs.Subtrees.{Has, rooted, kids, write_all, enter_all, node, long, past}

@@ -1,19 +1,18 @@
 -- A formula in a table, by its first word and the formulas under it.
 use Rattle.std.proofs.Common.{◌≡◌, ℕ, ◌+◌, ◌<◌, Bool, true, false, cond, ◌||◌, List, length, get_or, Some, None, Option, sym, refl, ap, ◌∙◌, subst, arith}
 use Rattle.std.proofs.lemmas.Bool.{false≢true}
-use Rattle.policy_words.specs.Tree.{Formula, Path}
+use Rattle.policy_words.specs.Tree.{Formula}
 use Rattle.policy_words.specs.Tree.Formula.{is, same, has, neg, both, either, at_letter, at_name, bind, some}
 use Rattle.policy_words.specs.declared.word.Letter.{Letter}
 use Rattle.policy_words.specs.declared.word.Letter.TheVariants as L
 use Rattle.policy_words.specs.declared.word.Word.{Word}
 use Rattle.policy_words.specs.declared.word.Word.TheVariants as W
-use Rattle.policy.specs.Letters.{has as holds, given, setting, alike}
+use Rattle.policy.specs.Letters.{has as holds, alike}
 use Rattle.policy.specs.Table.{size, extent, plain, joint, Stands, Reads}
 use Rattle.policy.specs.Free.{free, first, later, first_loose}
 use Rattle.policy.specs.Anchor.{first_stray}
 use Rattle.policy.specs.Steps.{formulas_at, free_by, settled, set_by, role, letter_role}
 use Rattle.policy.specs.declared.entry.Entry.{Entry}
-use Rattle.policy.specs.declared.letters.Letters.{Letters}
 use Rattle.policy.specs.declared.walk.Formulas.{Formulas}
 use Rattle.policy.specs.declared.walk.Formulas.TheVariants.{Leaf, One, Two}
 use Rattle.policy.specs.declared.walk.Role.{Role}

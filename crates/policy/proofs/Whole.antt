@@ -1,22 +1,22 @@
 -- Whether a table is a policy's can be decided, so that its formula can be had from the fact that there is one.
-use Rattle.std.proofs.Common.{◌≡◌, ℕ, ◌<◌, ◌≤◌, Bool, true, false, ◌⊎◌, List, [], ◌∷◌, map, length, take, Some, None, Option, sym, refl, ap, ◌∙◌, subst, inl, inr, arith}
+use Rattle.std.proofs.Common.{◌≡◌, ℕ, ◌≤◌, List, [], ◌∷◌, Some, None, Option, sym, refl, ap, ◌∙◌, subst, inl, inr, arith}
 use mathlib.Core.HLevel.{⊥_prop}
 use mathlib.Core.Logic.{∥∥₁_elim, ∥∥₁_map}
 use Rattle.std.proofs.lemmas.Bool.{cases_lt, cases_eq, cases_Bool, true≢false}
-use Rattle.policy_words.specs.Tree.{Formula, words, Whole, EachAllowed, each_allowed}
+use Rattle.policy_words.specs.Tree.{Formula, words, EachAllowed, each_allowed}
 use Rattle.policy_words.specs.declared.word.Word.{Word}
 use Rattle.policy_words.proofs.Rows.{heads, no_cons}
 use Rattle.policy_words.proofs.Unique.{one_tree}
 use Rattle.policy_words.proofs.Decide.{tree}
 use Rattle.policy_words.proofs.Allows.{each_allows, allows_each}
 use Rattle.policy.specs.Letters.{given}
-use Rattle.policy.specs.Table.{size, entries, words_in, Stands}
-use Rattle.policy.specs.Free.{Loose, Nowhere, Closed, first_loose}
-use Rattle.policy.specs.Anchor.{Anchored, Stray, first_stray}
+use Rattle.policy.specs.Table.{size, entries, words_in}
+use Rattle.policy.specs.Free.{Loose, Nowhere}
+use Rattle.policy.specs.Anchor.{Stray}
 use Rattle.policy.specs.Proper.{Proper, Written}
 use Rattle.policy.specs.declared.entry.Entry.{Entry}
 use Rattle.policy.proofs.Places.{Tells, tells_loose, tells_stray, anchored_nowhere, nowhere_anchored}
-use Rattle.policy.proofs.Tables.{entries-words, stands-whole}
+use Rattle.policy.proofs.Tables.{entries-words}
 
 dec_entries : (xs ys : List Entry) → words_in xs ≡ words_in ys → Dec (xs ≡ ys)
 dec_entries [] [] e = yes refl

@@ -1,8 +1,7 @@
 -- Anchored formulas: built by `!`, `&` and `:` from `@?q f` and `@?r f`.
-use Rattle.std.specs.Prelude.{◌≡◌, ℕ, ◌+◌, Bool, true, false, cond, ◌⊎◌, Some, None, Option}
+use Rattle.std.specs.Prelude.{◌≡◌, ℕ, ◌+◌, false, cond, ◌⊎◌, Some, None, Option}
 use Rattle.policy_words.specs.Tree.{Formula}
 use Rattle.policy_words.specs.Tree.Formula.{is, same, has, neg, both, either, at_letter, at_name, bind, some}
-use Rattle.policy_words.specs.declared.word.Letter.{Letter}
 use Rattle.policy_words.specs.declared.word.Letter.TheVariants.{Requester, Resource}
 use Rattle.policy.specs.Letters.{given}
 use Rattle.policy.specs.Table.{size}

@@ -1,6 +1,6 @@
 -- The letters that a formula leaves free, and its loose words.
 use Rattle.std.specs.Prelude.{◌≡◌, ℕ, ◌+◌, ◌≤◌, Bool, true, false, cond, not, ◌&&◌, ◌||◌, ◌⊎◌, Some, None, Option}
-use Rattle.policy_words.specs.Tree.{Formula, Path}
+use Rattle.policy_words.specs.Tree.{Formula}
 use Rattle.policy_words.specs.Tree.Formula.{is, same, has, neg, both, either, at_letter, at_name, bind, some}
 use Rattle.policy_words.specs.declared.word.Letter.{Letter}
 use Rattle.policy.specs.Letters.{alike, given, setting}

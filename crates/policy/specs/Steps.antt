@@ -1,11 +1,10 @@
 -- What one word does in a walk over a table.
-use Rattle.std.specs.Prelude.{ℕ, ◌+◌, Bool, true, false, not, ◌&&◌, ◌||◌}
+use Rattle.std.specs.Prelude.{ℕ, ◌+◌, Bool, true, not, ◌&&◌, ◌||◌}
 use Rattle.policy_words.specs.declared.word.Letter.{Letter}
 use Rattle.policy_words.specs.declared.word.Letter.TheVariants as L
 use Rattle.policy_words.specs.declared.word.Word.{Word}
 use Rattle.policy_words.specs.declared.word.Word.TheVariants as W
 use Rattle.policy.specs.Letters.{alike, setting}
-use Rattle.policy.specs.declared.entry.Entry.{Entry}
 use Rattle.policy.specs.declared.walk.Formulas.{Formulas}
 use Rattle.policy.specs.declared.walk.Formulas.TheVariants.{Leaf, One, Two}
 use Rattle.policy.specs.declared.walk.Role.{Role}

@@ -1,9 +1,9 @@
 -- The numbers of words that a text spells are below the counts of the roll.
-use Rattle.std.proofs.Common.{◌≡◌, ℕ, ◌<◌, min, List as Seq, [], ◌∷◌, length, take, Some, Ok, sym, refl, ap, ◌∙◌, subst, arith}
+use Rattle.std.proofs.Common.{ℕ, ◌<◌, min, List as Seq, [], ◌∷◌, length, Ok, arith}
 use Rattle.std.proofs.lemmas.List.{length-take}
 use Rattle.text.specs.Text.{words as text_words}
 use Rattle.roll.specs.Lists.{numbered}
-use Rattle.roll.specs.Rolls.{text_of, words_of, counts_of, number_of}
+use Rattle.roll.specs.Rolls.{text_of, words_of, counts_of}
 use Rattle.roll.specs.declared.list.List.{List}
 use Rattle.roll.specs.declared.list.List.TheVariants.{Names, Labels, Marks}
 use Rattle.roll.specs.declared.roll.Roll.{Roll}

@@ -1,5 +1,5 @@
 -- For every roll and every text exactly one answer is to be told.
-use Rattle.std.proofs.Common.{◌≡◌, ℕ, ◌+◌, ◌<◌, ◌≤◌, ◌⊎◌, List, [], ◌∷◌, ◌++◌, length, get_or, take, drop, Ok, Err, Result, sym, refl, ap, ◌∙◌, subst, inl, inr, append_assoc, append-nil, arith, take-append-drop}
+use Rattle.std.proofs.Common.{◌≡◌, ℕ, ◌+◌, ◌<◌, ◌≤◌, List, [], ◌∷◌, ◌++◌, length, get_or, take, drop, Ok, Err, Result, sym, refl, ap, ◌∙◌, subst, inl, inr, append_assoc, append-nil, arith, take-append-drop}
 use Rattle.std.proofs.lemmas.List.{take_more, take_all, get_or-take, length-take-le, take-take}
 use Rattle.std.proofs.lemmas.Bool.{cases_lt}
 use Rattle.text.specs.Text.{words as text_words, start_of}
@@ -11,12 +11,10 @@ use Rattle.policy_words.proofs.Unique.{one_tree, prefix_free}
 use Rattle.policy.specs.Letters.{given}
 use Rattle.policy.specs.Free.{Loose, First, Closed}
 use Rattle.policy.specs.Anchor.{Anchored, Stray}
-use Rattle.policy.specs.Policies.{Means}
 use Rattle.policy.specs.declared.policy.Policy.{Policy}
 use Rattle.policy.proofs.Places.{anchored_nowhere}
 use Rattle.policy_reader.specs.Spell.{Spells, Wrong}
-use Rattle.policy_reader.specs.Told.{EachSpells, Told, Gave, word_at}
-use Rattle.policy_reader.specs.declared.fault.WordFault.{WordFault}
+use Rattle.policy_reader.specs.Told.{EachSpells, Told, Gave}
 use Rattle.policy_reader.specs.declared.fault.PolicyFault.{PolicyFault}
 use Rattle.policy_reader.specs.declared.fault.PolicyFault.TheVariants as P
 use Rattle.policy_reader.proofs.OneWord.{spells_one, wrong_spells, wrong_one}

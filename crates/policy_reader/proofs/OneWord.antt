@@ -1,6 +1,6 @@
 -- Bytes spell at most one word, and have at most one fault.
-use Rattle.std.proofs.Common.{◌≡◌, ℕ, ◌≤◌, Bool, true, false, cond, eqb, ◌⊎◌, List, [], ◌∷◌, ◌++◌, length, get_or, drop, Some, None, Option, unwrap_or, sym, refl, ap, ◌∙◌, subst, inl, inr, arith}
-use Rattle.text.specs.Word.{Plain, plain}
+use Rattle.std.proofs.Common.{◌≡◌, ℕ, Bool, true, false, cond, eqb, List, [], ◌∷◌, ◌++◌, get_or, drop, Some, None, Option, unwrap_or, sym, refl, ap, ◌∙◌, subst, inl, inr, arith}
+use Rattle.text.specs.Word.{Plain}
 use Rattle.text.proofs.Words.{decides_plain}
 use Rattle.roll.specs.Rolls.{number_of}
 use Rattle.roll.specs.declared.list.List.{List as Which}

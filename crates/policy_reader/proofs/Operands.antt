@@ -1,5 +1,5 @@
 -- Operands by their sign.
-use Rattle.std.proofs.Common.{◌≡◌, ℕ, Bool, true, false, List, [], Ok, Err, Result, sym, refl, ap, ◌∙◌, subst, MatchResult}
+use Rattle.std.proofs.Common.{◌≡◌, ℕ, Bool, List, Err, Result, sym, subst, MatchResult}
 use Rattle.roll.specs.declared.list.List.TheVariants.{Names, Labels, Marks}
 use Rattle.roll.specs.declared.roll.Roll.{Roll}
 use Rattle.policy_words.specs.declared.word.Word.{Word}

@@ -1,5 +1,5 @@
 -- From the words that were found to what is to be told.
-use Rattle.std.proofs.Common.{◌≡◌, ℕ, zero, suc, ◌+◌, ◌-◌, ◌<◌, ◌≤◌, ◌⊎◌, List, [], ◌∷◌, ◌++◌, length, get_or, take, Ok, Err, Result, sym, refl, ap, ◌∙◌, subst, inl, inr, arith, MatchResult}
+use Rattle.std.proofs.Common.{◌≡◌, ℕ, zero, suc, ◌-◌, ◌<◌, ◌⊎◌, List, [], ◌∷◌, length, get_or, take, Ok, Err, Result, sym, refl, ap, subst, inl, inr, arith, MatchResult}
 use Rattle.std.proofs.lemmas.List.{take_more, take_all, get_or-take, length-take-le, take-take}
 use Rattle.text.specs.Text.{words as text_words, start_of}
 use Rattle.roll.specs.declared.roll.Roll.{Roll}
@@ -14,7 +14,7 @@ use Rattle.policy.specs.declared.fault.WordsFault.{WordsFault}
 use Rattle.policy.specs.declared.fault.WordsFault.TheVariants as F
 use Rattle.policy.specs.declared.policy.Policy.{Policy}
 use Rattle.policy.proofs.Places.{loose_below, stray_below}
-use Rattle.policy_reader.specs.Spell.{Spells, Operand, Wrong}
+use Rattle.policy_reader.specs.Spell.{Spells, Operand}
 use Rattle.policy_reader.specs.Told.{EachSpells, Spelled, Reaches, Told, Gave}
 use Rattle.policy_reader.specs.Found.{Finds, Stops}
 use Rattle.policy_reader.specs.Ends.{after_fault, short_fault, ShapeRefused, Refused}

@@ -1,5 +1,5 @@
 -- How a word of a policy is spelled under a roll, and why some bytes spell none.
-use Rattle.std.specs.Prelude.{◌≡◌, ℕ, ◌<◌, ◌≤◌, Bool, true, false, ◌⊎◌, List, [], ◌∷◌, ◌++◌, length, Some, codes, MatchBool}
+use Rattle.std.specs.Prelude.{◌≡◌, ℕ, ◌<◌, ◌≤◌, Bool, true, false, ◌⊎◌, List, [], ◌++◌, length, Some, codes, MatchBool}
 use Rattle.text.specs.Word.{Plain, Fine}
 use Rattle.roll.specs.Rolls.{number_of}
 use Rattle.roll.specs.declared.list.List.{List as Which}

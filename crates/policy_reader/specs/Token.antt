@@ -1,5 +1,5 @@
 -- How a word is cut into a sign and an operand.
-use Rattle.std.specs.Prelude.{◌≡◌, ℕ, List, [], ◌∷◌, ◌++◌, codes, ◌≢◌}
+use Rattle.std.specs.Prelude.{◌≡◌, ℕ, List, [], ◌++◌, codes, ◌≢◌}
 use Rattle.policy_reader.specs.declared.token.Token.{Token}
 use Rattle.policy_reader.specs.declared.token.Token.TheVariants as T
 use Rattle.policy_reader.specs.declared.fault.Cause.{Cause}

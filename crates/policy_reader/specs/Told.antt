@@ -1,5 +1,5 @@
 -- What is to be told of a text under a roll: the formula that it spells, or the first fault.
-use Rattle.std.specs.Prelude.{◌≡◌, ℕ, ◌+◌, ◌<◌, ◌≤◌, List, [], ◌∷◌, ◌++◌, length, take, Ok, Err, Result, slice_index_or}
+use Rattle.std.specs.Prelude.{◌≡◌, ℕ, ◌<◌, ◌≤◌, List, [], ◌∷◌, ◌++◌, length, take, Ok, Err, Result, slice_index_or}
 use Rattle.text.specs.Text.{words as text_words, start_of}
 use Rattle.book.specs.declared.counts.Counts.{Counts}
 use Rattle.roll.specs.declared.roll.Roll.{Roll}

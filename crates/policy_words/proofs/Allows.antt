@@ -1,5 +1,5 @@
 -- The tests of allowed words.
-use Rattle.std.proofs.Common.{◌≡◌, ℕ, ◌<◌, Bool, true, false, ◌&&◌, ltb, List, [], ◌∷◌, Decides, sym, refl, ap, ◌∙◌, subst}
+use Rattle.std.proofs.Common.{◌≡◌, ℕ, ◌<◌, true, ltb, List, [], ◌∷◌, refl}
 use Rattle.std.proofs.lemmas.Bool.{and_parts, and_from, false≢true, lt-ltb, ltb-true}
 use Rattle.policy_words.specs.Tree.{Settable, settable, Allowed, allowed, EachAllowed, each_allowed}
 use Rattle.policy_words.specs.declared.word.Letter.{Letter}

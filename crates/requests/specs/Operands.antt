@@ -1,5 +1,5 @@
 -- The operands of a command.
-use Rattle.std.specs.Prelude.{ℕ, Bool, cond, List, [], ◌∷◌, Some, None, Option, ◌==◌}
+use Rattle.std.specs.Prelude.{ℕ, cond, List, [], ◌∷◌, Some, None, Option, ◌==◌}
 use Rattle.roll.specs.declared.list.List.{List as Which}
 use Rattle.roll.specs.declared.roll.Roll.{Roll}
 use Rattle.roll.specs.Rolls.{number_of}

@@ -15,7 +15,7 @@ use Rattle.text.specs.declared.word.WordCause.{WordCause}
 use Rattle.text.specs.declared.word.WordFault.{WordFault}
 use Rattle.text.proofs.Cuts.{cons_nil}
 use Rattle.text.proofs.Words.{cause_means, fine_cause, wrong_cause}
-use Rattle.roll.specs.Lists.{numbered, place_of, Distinct, alone, Good, FirstWrong, WrongTogether, ListTold, fault_at, first_fault, absent, distinct, fault_then, list_fault}
+use Rattle.roll.specs.Lists.{numbered, place_of, Distinct, alone, Good, FirstWrong, ListTold, fault_at, first_fault, absent, distinct, fault_then, list_fault}
 use Rattle.roll.specs.Rolls.{Sound, text_of, words_of, counts_of, number_of, word_of, RollTold, or_later, roll_fault}
 use Rattle.roll.specs.declared.list.List.{List}
 use Rattle.roll.specs.declared.list.List.TheVariants.{Names, Labels, Marks}

@@ -1,5 +1,5 @@
 -- Rolls: three lists of words, and why their texts are refused.
-use Rattle.std.specs.Prelude.{◌≡◌, ℕ, min, List as Seq, length, Some, None, Option}
+use Rattle.std.specs.Prelude.{ℕ, min, List as Seq, length, Some, None, Option}
 use Rattle.std.specs.List.{slice_get}
 use Rattle.book.specs.declared.counts.Counts.{Counts}
 use Rattle.text.specs.Text.{words}

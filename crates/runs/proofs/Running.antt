@@ -1,14 +1,13 @@
 -- Lists of calls, one call on; and that the last accepted call decides.
-use Rattle.std.proofs.Common.{◌≡◌, ℕ, suc, ◌+◌, ◌<◌, Bool, true, false, cond, ◌&&◌, ◌||◌, eqb, ltb, List, [], ◌∷◌, ◌++◌, length, get_or, take, drop, set, is_ok as isOk, Some, None, Ok, Err, Option, Result, sym, refl, ap, ◌∙◌, subst, ⊎_elim, append_assoc, add-one, arith, drop-cons}
+use Rattle.std.proofs.Common.{◌≡◌, ℕ, suc, ◌+◌, ◌<◌, Bool, true, false, cond, ◌&&◌, eqb, List, [], ◌∷◌, ◌++◌, length, get_or, take, drop, set, is_ok as isOk, Some, None, Ok, Err, Result, sym, refl, ap, ◌∙◌, append_assoc, add-one, arith, drop-cons}
 use Rattle.std.proofs.lemmas.List.{take_more, set_at, length-take-le}
 use Rattle.std.proofs.lemmas.Bool.Decides.{nat_tests}
-use Rattle.std.proofs.lemmas.Bool.{cases_Bool}
 use Rattle.runs.specs.declared.play.Call.{Call}
 use Rattle.runs.specs.declared.play.Call.TheVariants.{Enter, Strike, SetMark, LiftMark}
 use Rattle.book.specs.declared.refusal.EnterRefusal.{EnterRefusal}
 use Rattle.book.specs.declared.tie.Tie.{Tie}
 use Rattle.book.specs.Meaning.{Meaning, at3, at2, with_ties, with_marks}
-use Rattle.book.specs.Calls.{entering, entered, striking, struck, marking, marked_as, tie_within, mark_within, ranged}
+use Rattle.book.specs.Calls.{entering, tie_within, mark_within, ranged}
 use Rattle.runs.specs.Runs.{answer, after, answered, reached, ranging, Item, tie, mark, there, effect, Unaffected, LastDecides}
 
 pub reached-more : (m : Meaning) (xs ys : List Call) → reached m (xs ++ ys) ≡ reached (reached m xs) ys

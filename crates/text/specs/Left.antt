@@ -1,5 +1,5 @@
 -- The pieces that are still to be taken.
-use Rattle.std.specs.Prelude.{◌≡◌, ℕ, ◌+◌, Bool, true, false, cond, List, [], ◌∷◌, length, take, drop, ◌≢◌}
+use Rattle.std.specs.Prelude.{◌≡◌, ℕ, ◌+◌, cond, List, [], ◌∷◌, length, take, drop, ◌≢◌}
 use Rattle.text.specs.Text.{pieces}
 use Rattle.text.specs.declared.pieces.Piece.{Piece}
 use Rattle.text.specs.declared.pieces.Pieces.{Pieces}

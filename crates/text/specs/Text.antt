@@ -1,5 +1,5 @@
 -- A text as the pieces between the bytes that part it.
-use Rattle.std.specs.Prelude.{◌≡◌, ℕ, zero, suc, ◌+◌, Bool, true, false, cond, List, [], ◌∷◌, ◌++◌, length, take, drop, ◌==◌, ◌≢◌, slice_index_or}
+use Rattle.std.specs.Prelude.{◌≡◌, ℕ, zero, suc, ◌+◌, cond, List, [], ◌∷◌, ◌++◌, length, take, drop, ◌==◌, ◌≢◌, slice_index_or}
 
 -- the byte b put in front of the first piece
 abbrev pub onto : ℕ → List (List ℕ) → List (List ℕ)

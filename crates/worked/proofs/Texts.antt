@@ -1,15 +1,12 @@
 -- The faults of the worked texts.
-use Rattle.std.proofs.Common.{◌≡◌, ℕ, ◌<◌, List, [], ◌∷◌, ◌++◌, Some, Err, codes, sym, refl, arith}
+use Rattle.std.proofs.Common.{ℕ, List, [], ◌∷◌, ◌++◌, Err, codes, refl, arith}
 use Rattle.text.specs.Word.{Fine}
 use Rattle.text.proofs.Words.{decides_plain}
-use Rattle.roll.specs.Rolls.{number_of}
-use Rattle.roll.specs.declared.list.List.TheVariants.{Labels}
 use Rattle.roll.specs.declared.roll.Roll.{Roll}
 use Rattle.policy_words.specs.Tree.{Begins, Unfinished}
 use Rattle.policy_words.specs.Tree.Formula.{is, same, at_letter}
 use Rattle.policy_words.specs.Due.{Owes}
 use Rattle.policy_words.specs.declared.word.Letter.TheVariants as L
-use Rattle.policy_words.specs.declared.word.Word.{Word}
 use Rattle.policy_words.specs.declared.word.Word.TheVariants as W
 use Rattle.policy_words.proofs.Rows.{owes_start, owes_more, owes_stuck, formula_turns, path_stuck}
 use Rattle.policy.specs.Letters.{given}
@@ -18,7 +15,7 @@ use Rattle.policy_reader.specs.Told.{Told}
 use Rattle.policy_reader.specs.declared.fault.PolicyFault.{PolicyFault}
 use Rattle.policy_reader.specs.declared.fault.PolicyFault.TheVariants as P
 use Rattle.policy_reader.proofs.OneAnswer.{one_answer}
-use Rattle.worked.specs.Policies.{Refused, Examples, PolicyExamples}
+use Rattle.worked.specs.Policies.{Refused, PolicyExamples}
 
 alone : (r : Roll) (t : List ℕ) (e : PolicyFault) → Told r t (Err e) → Refused r t e
 alone r t e h = (h, λ x g. one_answer r t x (Err e) g h)

@@ -1,4 +1,4 @@
-use Rattle.std.proofs.Common.{length, Some, None, refl, subst, arith}
+use Rattle.std.proofs.Common.{Some, None, refl, subst, arith}
 use Rattle.std.proofs.lemmas.List.{take_more_set, drop-set-lt}
 use Rattle.rows.specs.Rows.{Finds}
 use Rattle.rows.proofs.Fronts.{held_part}

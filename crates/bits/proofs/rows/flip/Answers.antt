@@ -1,6 +1,6 @@
-use Rattle.std.proofs.Common.{◌≡◌, ◌*◌, ◌/◌, ◌%◌, ◌^◌, ◌<◌, length, get_or, set, refl, ap, ◌∙◌, arith}
+use Rattle.std.proofs.Common.{◌≡◌, ◌*◌, ◌/◌, ◌%◌, ◌^◌, get_or, set, refl, ap, ◌∙◌, arith}
 use lib.Bits.{bit_xor}
-use Rattle.std.proofs.lemmas.Nat.{one_shl, mod_below, div_below}
+use Rattle.std.proofs.lemmas.Nat.{one_shl, mod_below}
 use Rattle.bits.specs.Bits.{bit_set}
 use Rattle.bits.proofs.BitLaws.{lit_flip}
 use Rattle.bits.proofs.rows.flip.Goals as goal

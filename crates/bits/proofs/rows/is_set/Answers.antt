@@ -1,4 +1,4 @@
-use Rattle.std.proofs.Common.{◌/◌, ◌%◌, get_or, sym, arith}
+use Rattle.std.proofs.Common.{◌/◌, ◌%◌, get_or, sym}
 use Rattle.bits.proofs.BitLaws.{bit_read, lit_past}
 use Rattle.bits.proofs.rows.is_set.Goals as goal
 

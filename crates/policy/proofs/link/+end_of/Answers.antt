@@ -1,4 +1,4 @@
-use Rattle.std.proofs.Common.{◌≡◌, ◌+◌, [], ◌∷◌, ◌++◌, length, sym, refl, ap, ◌∙◌, subst, arith, length-append}
+use Rattle.std.proofs.Common.{◌≡◌, [], ◌∷◌, sym, subst, arith, length-append}
 use Rattle.policy_words.specs.declared.word.Word.TheVariants as W
 use Rattle.policy_words.proofs.Rows.{len0}
 use Rattle.policy.specs.Linking.{write}

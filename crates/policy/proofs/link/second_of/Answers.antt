@@ -1,4 +1,4 @@
-use Rattle.std.proofs.Common.{◌≡◌, sym, refl, ap, ◌∙◌, subst, arith}
+use Rattle.std.proofs.Common.{sym, ap, ◌∙◌, arith}
 use Rattle.policy_words.specs.declared.word.Word.TheVariants as W
 use Rattle.policy.proofs.Subtrees.{rooted, two, counted, kids, node, second_by, no_second}
 use Rattle.policy.proofs.link.second_of.Goals as goal

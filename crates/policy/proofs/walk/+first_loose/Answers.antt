@@ -1,4 +1,4 @@
-use Rattle.std.proofs.Common.{◌≡◌, Some, None, sym, refl, ap, ◌∙◌, add-zero, arith}
+use Rattle.std.proofs.Common.{Some, sym, ap, ◌∙◌, add-zero, arith}
 use Rattle.policy.specs.Free.{first, later, first_loose}
 use Rattle.policy.specs.Letters.{has}
 use Rattle.policy.specs.Steps.{set_by}

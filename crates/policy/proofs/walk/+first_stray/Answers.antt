@@ -1,4 +1,4 @@
-use Rattle.std.proofs.Common.{◌≡◌, Some, None, sym, refl, ap, ◌∙◌, add-zero, arith}
+use Rattle.std.proofs.Common.{Some, sym, ap, ◌∙◌, add-zero, arith}
 use Rattle.policy.specs.Free.{first, later}
 use Rattle.policy.specs.Anchor.{first_stray}
 use Rattle.policy.proofs.Walks.{viewed, below, by_role}

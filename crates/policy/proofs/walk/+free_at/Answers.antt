@@ -1,4 +1,4 @@
-use Rattle.std.proofs.Common.{◌≡◌, ◌||◌, sym, refl, ap, ◌∙◌, arith}
+use Rattle.std.proofs.Common.{◌||◌, sym, ap, ◌∙◌, arith}
 use Rattle.policy.specs.Letters.{has}
 use Rattle.policy.specs.Steps.{free_by}
 use Rattle.policy.proofs.Walks.{here, viewed, below, none_has}

@@ -1,4 +1,4 @@
-use Rattle.std.proofs.Common.{◌≡◌, sym, ◌∙◌, subst, arith, length-set}
+use Rattle.std.proofs.Common.{sym, ◌∙◌, subst, arith, length-set}
 use Rattle.roll.proofs.Walks.{step_end}
 use Rattle.text.specs.Text.{words as text_words}
 use Rattle.policy_reader.specs.Spell.{Wrong}

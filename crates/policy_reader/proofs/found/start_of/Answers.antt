@@ -1,4 +1,4 @@
-use Rattle.std.proofs.Common.{◌≡◌, sym, arith}
+use Rattle.std.proofs.Common.{arith}
 use Rattle.roll.proofs.Walks.{step_end}
 use Rattle.text.specs.Text.{words as text_words}
 use Rattle.policy_reader.proofs.Finding.{took_on, took_next}

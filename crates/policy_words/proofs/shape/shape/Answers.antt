@@ -1,4 +1,4 @@
-use Rattle.std.proofs.Common.{◌+◌, ◌<◌, take, sym, subst, inl, inr, arith}
+use Rattle.std.proofs.Common.{◌+◌, ◌<◌, sym, subst, inl, inr, arith}
 use Rattle.std.proofs.lemmas.List.{take_more, take_all}
 use Rattle.policy_words.specs.Tree.{Whole, Begins, Unfinished}
 use Rattle.policy_words.specs.Due.{Owes}

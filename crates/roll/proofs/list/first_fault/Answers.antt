@@ -1,4 +1,4 @@
-use Rattle.std.proofs.Common.{◌≡◌, sym, ◌∙◌}
+use Rattle.std.proofs.Common.{sym, ◌∙◌}
 use Rattle.roll.proofs.Faults.{fault_passed}
 use Rattle.roll.proofs.list.first_fault.Goals as goal
 

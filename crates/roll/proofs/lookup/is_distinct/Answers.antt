@@ -1,4 +1,4 @@
-use Rattle.std.proofs.Common.{◌≡◌, sym, refl, ap, ◌∙◌}
+use Rattle.std.proofs.Common.{sym, refl, ◌∙◌}
 use Rattle.std.proofs.lemmas.Bool.{false≢true}
 use Rattle.roll.specs.Lists.{numbered}
 use Rattle.roll.proofs.Walks.{step_word, step_on, step_there, step_end, front_step, front-none, front_full, walked, once, own_number, other_number}

@@ -1,4 +1,4 @@
-use Rattle.std.proofs.Common.{◌≡◌, ◌≤◌, sym, subst}
+use Rattle.std.proofs.Common.{◌≤◌, sym, subst}
 use Rattle.book_laws.proofs.Moves.{fun_ext2}
 use Rattle.marks.proofs.MarkMoves.{made_named, made_few, unmarked, unmarked_counted}
 use Rattle.marks.proofs.mark_board.MarkBoard.new.Goals as goal

@@ -1,11 +1,6 @@
-use Rattle.std.proofs.Common.{◌≡◌, true, false, cond, not, length, sym, refl, ap, ◌∙◌, subst, arith, rules}
-use Rattle.book_laws.proofs.Moves.{fun_ext2}
-use Rattle.std.proofs.lemmas.Bool.{cond-true}
-use Rattle.bits.specs.Bits.{bit_set}
+use Rattle.std.proofs.Common.{◌≡◌, length, sym, refl, ap, ◌∙◌, arith, rules}
 use Rattle.book.specs.Calls.{mark_within, ranged}
-use Rattle.marks.specs.MarkBits.{marks_in}
-use Rattle.book.specs.Meaning.{at2}
-use Rattle.marks.proofs.MarkMoves.{ranged_ok, differs, agrees, put_same, turned_marks, turned_more, turned_less, few_marks}
+use Rattle.marks.proofs.MarkMoves.{ranged_ok, differs, turned_marks, turned_more, turned_less, few_marks}
 use Rattle.marks.proofs.mark_board.MarkBoard.put_mark.Goals as goal
 
 pub overflow_add-self : goal.overflow_add-self

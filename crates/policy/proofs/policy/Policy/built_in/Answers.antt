@@ -1,6 +1,4 @@
 use Rattle.std.proofs.Common.{refl, arith}
-use Rattle.policy_words.specs.Tree.Formula.{neg, at_letter, same}
-use Rattle.policy_words.specs.declared.word.Letter.TheVariants.{Requester}
 use Rattle.policy.specs.Policies.{built_in}
 use Rattle.policy.specs.Anchor.Anchored.{not as a_not, at_requester}
 use Rattle.policy.proofs.Places.{tells_loose}

@@ -1,4 +1,4 @@
-use Rattle.std.proofs.Common.{◌≡◌, length, sym, ap, ◌∙◌, arith}
+use Rattle.std.proofs.Common.{length, ap, ◌∙◌, arith}
 use Rattle.policy.specs.Policies.{entries_of}
 use Rattle.policy.proofs.Making.{front}
 use Rattle.policy.proofs.Tables.{stands-whole, entries-length}

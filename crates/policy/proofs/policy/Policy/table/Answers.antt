@@ -1,4 +1,3 @@
-use Rattle.std.proofs.Common.{◌≡◌, sym}
 use Rattle.policy.specs.Policies.{entries_of}
 use Rattle.policy.proofs.Making.{front}
 use Rattle.policy.proofs.Places.{closed-is-free, anchored-is}

@@ -1,4 +1,4 @@
-use Rattle.std.proofs.Common.{◌≡◌, ◌<◌, ◌⊎◌, sym, refl, ap, ◌∙◌, inl, inr, arith}
+use Rattle.std.proofs.Common.{◌≡◌, ◌<◌, ◌⊎◌, sym, inl, inr, arith}
 use Rattle.policy_words.proofs.Rows.{path_turns, formula_turns, path_stuck, formula_stuck}
 use Rattle.policy_words.proofs.due.Due.after.Goals as goal
 use Rattle.policy_words.proofs.due.Due.after.Goals.{then-self-gt0-via-then-self-gt0, then-self-gt0-via-else-self-gt0+then-self-eq0-2}

@@ -1,8 +1,7 @@
-use Rattle.std.proofs.Common.{◌≡◌, true, false, is_err, Some, None, sym, ap, ◌∙◌}
+use Rattle.std.proofs.Common.{◌≡◌, is_err, Some, None, sym, ap, ◌∙◌}
 use Rattle.std.proofs.lemmas.Bool.Decides.{not_from_Decides}
-use Rattle.book.specs.Limits.{checked, within}
+use Rattle.book.specs.Limits.{checked}
 use Rattle.text.specs.Text.{words}
-use Rattle.roll.specs.Lists.{alone, fault_then, distinct}
 use Rattle.roll.specs.declared.list.ListFault.TheVariants.{Word, CountOrRepeat}
 use Rattle.roll.proofs.Faults.{list_as_told, word_fault, outside, repeated, exact, accepted}
 use Rattle.roll.proofs.list.List.check.Goals as goal
