@@ -1,2 +1,4 @@
+pub mod Times
 pub mod Opening
+pub mod Moves
 pub mod Seeking

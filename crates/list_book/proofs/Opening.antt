@@ -8,7 +8,7 @@ use Rattle.book_laws.proofs.Counting.{count3-none}
 use Rattle.book_laws.proofs.Moves.{fun_ext3}
 use Rattle.list_book.specs.Listed.{listed, Once, Inside, Counted}
 use Rattle.list_book.specs.ListBooks.{made_meaning}
-use Rattle.list_book.specs.Times.{times_nil}
+use Rattle.list_book.proofs.Times.{times_nil}
 
 -- no tie at all
 pub once_nil : Once []

@@ -11,7 +11,7 @@ use Rattle.book.specs.Ties.{same_tie, toward}
 use Rattle.book.specs.Calls.{next_within, ranged}
 use Rattle.marks.proofs.MarkMoves.{ranged_ok}
 use Rattle.list_book.specs.Listed.{listed, Inside}
-use Rattle.list_book.specs.Times.{times_nil, times_push}
+use Rattle.list_book.proofs.Times.{times_nil, times_push}
 
 -- a tie of the list joins s to y
 abbrev pub joined : List Tie → ℕ → Direction → ℕ → ℕ → Bool

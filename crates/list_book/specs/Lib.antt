@@ -1,4 +1,2 @@
 pub mod Listed
 pub mod ListBooks
-pub mod Moves
-pub mod Times

@@ -4,7 +4,7 @@ ghost use Rattle.book.specs.Ties.{same_tie, toward};
 ghost use Rattle.list_book.specs.ListBooks.{list_meaning, row_ties};
 ghost use Rattle.std.proofs.Common.{arith};
 ghost use Rattle.std.proofs.lemmas.Bool.Decides.{nat_tests};
-ghost use Rattle.list_book.specs.Moves.{count};
+ghost use Rattle.book.specs.Meaning.{ties_of};
 
 use crate::ListBook;
 use book::counts::Counts;
@@ -40,12 +40,13 @@ fn other_end(tie: Tie, label: u8, dir: Direction, name: u8) -> Option<u8>
 impl Reading for ListBook {
     ghost meaning = { list_meaning };
 
-    ghost sound = { λ b.
+    ghost sound = { unfold ties_of in
+        λ b.
         record {
           limits = record { some_name = b.marks.named.0; few_names = b.marks.named.1; few_labels = b.marks.few.0; few_marks = b.marks.few.1 };
           tied_within = λ l f t e. let h = b.inside l f t in (Prim.grind (arith, nat_tests, e, h), Prim.grind (arith, nat_tests, e, h), Prim.grind (arith, nat_tests, e, h));
           marked_within = λ k n e. (Prim.grind (arith, nat_tests, e), Prim.grind (arith, nat_tests, e));
-          fits = omega (arith, count b, b.front);
+          fits = omega (arith, b.counted, b.front);
         } };
 
     fn counts(&self) -> Counts {

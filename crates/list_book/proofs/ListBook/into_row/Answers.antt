@@ -1,5 +1,5 @@
 use Rattle.std.proofs.Common.{refl}
-use Rattle.list_book.specs.Moves.{holds_ties}
+use Rattle.list_book.proofs.Moves.{holds_ties}
 use Rattle.list_book.proofs.ListBook.into_row.Goals as goal
 
 pub returns : goal.returns

@@ -7,7 +7,7 @@ use Rattle.book.specs.declared.refusal.EnterRefusal.TheVariants.{Full}
 use Rattle.book_laws.proofs.Moves.{entered_by, entered-there, entered_refused, entering-there, entering-room, entering_full}
 use Rattle.list_book.specs.Listed.{listed}
 use Rattle.list_book.specs.ListBooks.{list_meaning, row_ties}
-use Rattle.list_book.specs.Moves.{Stand, ties_stand, count, tie_in, none_lent, some_lent, same_front, grew_room, grew_front, full_lent, row_same, row_grew, left_there, left_refused, written, placed, placed_stand}
+use Rattle.list_book.proofs.Moves.{Stand, ties_stand, count, tie_in, none_lent, some_lent, same_front, grew_room, grew_front, full_lent, row_same, row_grew, left_there, left_refused, written, placed, placed_stand}
 use Rattle.list_book.proofs.keeping.ListBookKeeping.enter.Goals as goal
 
 pub invariant_of-self : goal.invariant_of-self

@@ -6,8 +6,8 @@ use Rattle.marks.specs.MarkBoards.{counts_kept}
 use Rattle.book_laws.proofs.Moves.{struck_by, struck-absent}
 use Rattle.book.specs.Ties.{same_tie}
 use Rattle.list_book.specs.ListBooks.{list_meaning, row_ties}
-use Rattle.list_book.specs.Times.{absent_times, found_times}
-use Rattle.list_book.specs.Moves.{tie_in, struck_moved, taken_out, left_absent, removed, removed_stand}
+use Rattle.list_book.proofs.Times.{absent_times, found_times}
+use Rattle.list_book.proofs.Moves.{tie_in, struck_moved, taken_out, left_absent, removed, removed_stand}
 use Rattle.list_book.proofs.keeping.ListBookKeeping.strike.Goals as goal
 
 pub invariant_of-self : goal.invariant_of-self

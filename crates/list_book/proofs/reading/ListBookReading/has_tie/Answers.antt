@@ -3,8 +3,8 @@ use Rattle.rows.specs.Rows.{Finds}
 use Rattle.marks.specs.MarkBoards.{counts_kept}
 use Rattle.book.specs.Ties.{same_tie}
 use Rattle.list_book.specs.ListBooks.{row_ties}
-use Rattle.list_book.specs.Times.{find_tells}
-use Rattle.list_book.specs.Moves.{tie_in}
+use Rattle.list_book.proofs.Times.{find_tells}
+use Rattle.list_book.proofs.Moves.{tie_in}
 use Rattle.list_book.proofs.reading.ListBookReading.has_tie.Goals as goal
 
 pub returns : goal.returns

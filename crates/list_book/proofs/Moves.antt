@@ -21,7 +21,7 @@ use Rattle.list_book.specs.declared.ListBook.{ListBook}
 use Rattle.book.specs.Ties.{is_tie, same_tie}
 use Rattle.list_book.specs.Listed.{times, listed, Once, Inside, Counted, HoldsTies}
 use Rattle.list_book.specs.ListBooks.{list_meaning, row_ties, row_items, row_entered, RowStruck}
-use Rattle.list_book.specs.Times.{times_push, times_moved, absent_times, found_times, stands_times, place_of_lem, two_times}
+use Rattle.list_book.proofs.Times.{times_push, times_moved, absent_times, found_times, stands_times, place_of_lem, two_times}
 
 -- what a book keeps true of the ties in its row
 abbrev pub Stand : Counts → List Tie → ℕ → Type 0
