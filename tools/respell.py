@@ -6,7 +6,8 @@ usage: python3 tools/respell.py            at the top of the repository, once, a
 
 Renamed are the names that specs/ and proofs/ declare: definitions, lemmas, fields of records and cases of data.
 A name from src/, a goal that the check makes, a string and a comment keep their spelling. In a lemma's name a dash
-stays between two words that are each a definition's name, as in `ties_of-entered`; elsewhere it becomes `_`.
+stays between two words that are each the name of a definition of specs/, as in `entered-there`; elsewhere it
+becomes `_`.
 """
 
 import glob
@@ -24,7 +25,9 @@ HEAD = re.compile(
 )
 WORDS_OF_SYNTAX = {"use", "where", "let", "in", "module", "unfolding", "record", "data", "_"}
 # a new name that would fall together with another one in the same files
-APART = {"place-of": "place_of_lem"}
+APART = {"place-of": "place_of_lem", "bit-or": "bit-bit_or"}
+# likewise for a name that a file gives to what it brings in
+APART_ALIASES = {"words-of": "text_words"}
 
 
 def files(pattern):
@@ -66,7 +69,7 @@ def renaming(paths):
     new = {}
     for name in definitions:
         new[name] = camel(name) if name[0].isupper() else snake(name)
-    known = set(new.values()) | definitions | set(STD_WORDS)
+    known = {snake(name) for name in functions(paths) if not name[0].isupper()} | set(STD_WORDS)
     for name in lemmas:
         if name[0].isupper():
             new[name] = camel(name)
@@ -75,6 +78,20 @@ def renaming(paths):
         new[name] = joined(parts, known)
     new.update(APART)
     return {k: v for k, v in new.items() if k != v}, by_file
+
+
+def functions(paths):
+    """The definitions of specs/ that stand at the top of their file: no field and no case of data."""
+    found = set()
+    for path in paths:
+        if "/specs/" not in path:
+            continue
+        with open(path, encoding="utf-8") as f:
+            text = f.read()
+        found |= {m.group(1) for m in re.finditer(r"^(?:abbrev |unfoldable )+(?:pub )?([^\s(){}:]+)[^:\n]*:", text, re.M)}
+        for m in re.finditer(r"^(?:abbrev )?mutual\n((?:  .*\n|\n)*)", text, re.M):
+            found |= {n.group(1) for n in re.finditer(r"^  (?:pub )?([^\s(){}:]+) :", m.group(1), re.M)}
+    return found
 
 
 def joined(parts, known):
@@ -113,8 +130,9 @@ def imports(text, own):
 
 
 def other_names(text):
-    """The names that a file itself gives to what it brings in, as `b` in `a as b`."""
-    return {m.group(1) for m in re.finditer(r"\bas «?([a-z][^\s,;{}()»]*)»?", text) if "-" in m.group(1)}
+    """The names that a file itself gives to what it brings in, as `b` in `a as b`, with their new spelling."""
+    found = {m.group(1) for m in re.finditer(r"\bas «?([a-z][^\s,;{}()»]*)»?", text) if "-" in m.group(1)}
+    return {k: APART_ALIASES.get(k, snake(k)) for k in found}
 
 
 def cut_comments(line):
@@ -155,7 +173,7 @@ def turn_antt(path, new, declares, fields, own):
     brought, aliases = imports(text, own)
     scope = {k: new[k] for k in (set(declares) | brought) if k in new}
     scope.update({k: new[k] for k in fields if k in new and k not in scope})
-    scope.update({k: snake(k) for k in other_names(text) if k != snake(k)})
+    scope.update(other_names(text))
     flds = {k: new[k] for k in fields if k in new}
     lines = []
     for line in text.split("\n"):
@@ -166,7 +184,7 @@ def turn_antt(path, new, declares, fields, own):
         if re.match(r"\s*(pub )?use ", code):
             mine = re.match(r"\s*(?:pub )?use Rattle\.(\w+)", code)
             table = new if mine and mine.group(1) in own else {}
-            also = {k: snake(k) for k in other_names(code)}
+            also = other_names(code)
             code = respell(code, table | also, {}, set(), table)
         else:
             code = respell(code, scope, flds, aliases, new)
@@ -179,7 +197,7 @@ def turn_rt(path, new, fields, own):
         text = f.read()
     brought, aliases = imports(text, own)
     scope = {k: new[k] for k in brought if k in new}
-    scope.update({k: snake(k) for k in other_names(text) if k != snake(k)})
+    scope.update(other_names(text))
     flds = {k: new[k] for k in fields if k in new}
     lines = []
     for line in text.split("\n"):
@@ -188,7 +206,7 @@ def turn_rt(path, new, fields, own):
             continue
         mine = re.match(r"\s*ghost use Rattle\.(\w+)", line)
         if mine:
-            also = {k: snake(k) for k in other_names(line)}
+            also = other_names(line)
             line = respell(line, new | also, {}, set(), new) if mine.group(1) in own else line
         else:
             line = respell(line, scope | {k: v for k, v in flds.items() if "-" in k}, {k: v for k, v in flds.items() if "-" in k}, aliases, new)

@@ -8,8 +8,8 @@ use Rattle.std.proofs.lemmas.List.{get_or-set_same, get_or-set_other, get_or-rep
 use Rattle.std.proofs.lemmas.Nat.{pow_pos, pow-add, shl-shr, xor_shr, xor_mod, and_mask, mod-mul-add, div_below, mod_below, pow_below, div-add-mod'}
 use Rattle.bits.specs.Bits.{bit, bit_set}
 
-pow_bit-same : (k : ℕ) → 2 ^ k / 2 ^ k % 2 ≡ 1
-pow_bit-same k =
+pow_bit_same : (k : ℕ) → 2 ^ k / 2 ^ k % 2 ≡ 1
+pow_bit_same k =
     let e : 1 * 2 ^ k ≡ 2 ^ k = omega arith in
     ap (λ n. n % 2) (subst (λ n. n / 2 ^ k ≡ 1) e (shl-shr 1 k))
 
@@ -46,7 +46,7 @@ bit_flip w k j =
     let parts : bit_xor w (2 ^ k) / 2 ^ j % 2 ≡ bit_xor (w / 2 ^ j % 2) (2 ^ k / 2 ^ j % 2) = ap (λ n. n % 2) (xor_shr w (2 ^ k) j) ∙ xor_mod (w / 2 ^ j) (2 ^ k / 2 ^ j) 1 in
     ⊎_elim
     (λ (e : k ≡ j).
-    let one : 2 ^ k / 2 ^ j % 2 ≡ 1 = subst (λ i. 2 ^ k / 2 ^ i % 2 ≡ 1) e (pow_bit-same k) in
+    let one : 2 ^ k / 2 ^ j % 2 ≡ 1 = subst (λ i. 2 ^ k / 2 ^ i % 2 ≡ 1) e (pow_bit_same k) in
     let here : eqb (bit_xor w (2 ^ k) / 2 ^ j % 2) 1 ≡ not (eqb (w / 2 ^ j % 2) 1) =
     ap (λ n. eqb n 1) (parts ∙ ap (bit_xor (w / 2 ^ j % 2)) one) ∙ xor_one (w / 2 ^ j % 2) (mod_below (w / 2 ^ j) 2 (omega arith)) in
     here ∙ sym (ap (λ b. cond b (not (eqb (w / 2 ^ j % 2) 1)) (eqb (w / 2 ^ j % 2) 1)) (eq-eqb k j e)))

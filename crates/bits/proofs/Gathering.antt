@@ -20,9 +20,9 @@ or_digits a b a_in b-in =
     (digit (λ n. eqb (bit_or 0 n) 1 ≡ (eqb 0 1 || eqb n 1)) b b-in refl refl)
     (digit (λ n. eqb (bit_or 1 n) 1 ≡ (eqb 1 1 || eqb n 1)) b b-in refl refl)
 
-pub bit-or : (a b k : ℕ) → bit (bit_or a b) k ≡ (bit a k || bit b k)
+pub bit-bit_or : (a b k : ℕ) → bit (bit_or a b) k ≡ (bit a k || bit b k)
 unfolding bit
-bit-or a b k =
+bit-bit_or a b k =
     ap (λ n. eqb n 1) (ap (λ n. n % 2) (or_shr a b k) ∙ or_mod (a / 2 ^ k) (b / 2 ^ k) 1)
     ∙ or_digits (a / 2 ^ k % 2) (b / 2 ^ k % 2) (mod_below (a / 2 ^ k) 2 (omega arith)) (mod_below (b / 2 ^ k) 2 (omega arith))
 
@@ -77,7 +77,7 @@ module _ (ws : List ℕ) (i k a : ℕ) (k-in : k < 64) (first : a ≡ get_or ws 
   gathered_parts b ne fits second =
       let s = 64 - i % 64 in
       let upper : bit ((b * 2 ^ s) % 2 ^ 64) k ≡ bit (b * 2 ^ s) k = bit_kept (b * 2 ^ s) k k-in in
-      bit-or (a / 2 ^ (i % 64)) ((b * 2 ^ s) % 2 ^ 64) k
+      bit-bit_or (a / 2 ^ (i % 64)) ((b * 2 ^ s) % 2 ^ 64) k
       ∙ ⊎_elim
       (λ (lt : k < s).
       let none : bit ((b * 2 ^ s) % 2 ^ 64) k ≡ false = upper ∙ bit_shl_low b s k lt in

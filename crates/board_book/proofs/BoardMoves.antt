@@ -16,7 +16,7 @@ use Rattle.marks.specs.MarkBoards.{counts_kept, marks_kept}
 use Rattle.book.specs.Meaning.{Meaning, ties_of, at3, opened, with_ties}
 use Rattle.book_laws.proofs.Counting.{count3_le, count3_put}
 use Rattle.marks.proofs.MarkMoves.{differs, agrees}
-use Rattle.book_laws.proofs.Moves.{fun_ext3, entering-there, entering-room, entered_by}
+use Rattle.book_laws.proofs.Moves.{fun_ext3, entering-there, entering_room, entered_by}
 use Rattle.board_book.specs.TieBits.{place, possible, ties_in, CountedTies, Clear}
 use Rattle.board_book.specs.Boards.{board_meaning}
 use Rattle.board_book.specs.Making.{fitting, fitted, needed, board_opened}
@@ -27,7 +27,7 @@ use Rattle.board_book.proofs.TieMoves as ties
 pub few_ties : (b : BoardBook) → b.used ≤ 65536
 few_ties b =
     let c = counts_kept b.marks in
-    omega (arith, b.counted, count3_le c.labels c.names (ties_in c (vec_items b.words)), ties.few-possible c b.marks.few.0 b.marks.named.1)
+    omega (arith, b.counted, count3_le c.labels c.names (ties_in c (vec_items b.words)), ties.few_possible c b.marks.few.0 b.marks.named.1)
 
 -- a tie in range is never refused
 pub never_full : (b : BoardBook) (t : Tie) → tie_within (counts_kept b.marks) t ≡ true → entering (board_meaning b) t ≡ Ok tt
@@ -42,7 +42,7 @@ never_full b t within =
     let f-in : t.from < c.names = grind (arith, nat_tests, within) in
     let t-in : t.to < c.names = grind (arith, nat_tests, within) in
     let more = count3_put c.labels c.names m.tied t.label t.from t.to l-in f-in t-in off in
-    entering-room m t within (omega (arith, more, count3_le c.labels c.names (at3 m.tied t.label t.from t.to true))))
+    entering_room m t within (omega (arith, more, count3_le c.labels c.names (at3 m.tied t.label t.from t.to true))))
     (cases_Bool (has m t))
 
 pub entered_always : (b : BoardBook) (t : Tie) (m : Meaning) → tie_within (counts_kept b.marks) t ≡ true

@@ -9,19 +9,19 @@ use Rattle.bits.specs.Bits.{bit_set}
 use Rattle.book.specs.Calls.{tie_within}
 use Rattle.book.specs.Meaning.{at3, count3}
 use Rattle.bits.proofs.BitLaws.{unlit}
-use Rattle.book_laws.proofs.Counting.{count3_put, count3_cut, count3-none}
+use Rattle.book_laws.proofs.Counting.{count3_put, count3_cut, count3_none}
 use Rattle.marks.proofs.MarkMoves.{and_false}
 use Rattle.book_laws.proofs.Moves.{fun_ext3}
 use Rattle.board_book.specs.TieBits.{place, possible, ties_in, CountedTies, Clear}
 
-not-not : (b : Bool) → not (not b) ≡ b
-not-not true = refl
-not-not false = refl
+not_not : (b : Bool) → not (not b) ≡ b
+not_not true = refl
+not_not false = refl
 
 -- different ties have different bits
-place-apart : (names l f t x y z : ℕ) → f < names → t < names → y < names → z < names
+place_apart : (names l f t x y z : ℕ) → f < names → t < names → y < names → z < names
     → place names l f t ≡ place names x y z → (l ≡ x) × (f ≡ y) × (t ≡ z)
-place-apart names l f t x y z f_in t_in y-in z-in e =
+place_apart names l f t x y z f_in t_in y-in z-in e =
     let rows : l * names + f ≡ x * names + y = sym (div-mul-add (l * names + f) names t t_in) ∙ ap (λ n. n / names) e ∙ div-mul-add (x * names + y) names z z-in in (
       sym (div-mul-add l names f f_in) ∙ ap (λ n. n / names) rows ∙ div-mul-add x names y y-in,
       sym (mod-mul-add l names f f_in) ∙ ap (λ n. n % names) rows ∙ mod-mul-add x names y y-in,
@@ -38,15 +38,15 @@ place_below c t within =
     let all = mul-add-lt (t.label * c.names + t.from) c.names t.to (c.names * c.labels) row t_in in
     omega (arith, all, ap (λ n. c.names * n) (mul_comm c.names c.labels) ∙ mul_comm c.names (c.labels * c.names))
 
-pub few-possible : (c : Counts) → c.labels ≤ 16 → c.names ≤ 64 → possible c ≤ 65536
-few-possible c a b = mul-le (c.labels * c.names) c.names 1024 64 (mul-le c.labels c.names 16 64 a b) b
+pub few_possible : (c : Counts) → c.labels ≤ 16 → c.names ≤ 64 → possible c ≤ 65536
+few_possible c a b = mul-le (c.labels * c.names) c.names 1024 64 (mul-le c.labels c.names 16 64 a b) b
 
 -- no bit is set
 pub untied : (c : Counts) (n x y z : ℕ) → ties_in c (replicate n 0) x y z ≡ false
 untied c n x y z = and_false _ _ (unlit n (place c.names x y z))
 
 pub untied_counted : (c : Counts) (n : ℕ) → CountedTies c (replicate n 0) 0
-untied_counted c n = sym (count3-none c.labels c.names _ (untied c n))
+untied_counted c n = sym (count3_none c.labels c.names _ (untied c n))
 
 -- the bit of one tie was turned over
 module _ (c : Counts) (ws vs : List ℕ) (t : Tie) (within : tie_within c t ≡ true)
@@ -75,14 +75,14 @@ module _ (c : Counts) (ws vs : List ℕ) (t : Tie) (within : tie_within c t ≡ 
       let tz : t.to ≡ z = grind (arith, nat_tests, e) in
       let at : here ≡ place c.names x y z = cc in
       let now-lit : bit_set vs (place c.names x y z) ≡ v =
-      subst (λ j. bit_set vs j ≡ v) at (flipped here ∙ ap (λ b. cond b (not (bit_set ws here)) (bit_set ws here)) (eq-eqb here here refl) ∙ ap not was ∙ not-not v) in
+      subst (λ j. bit_set vs j ≡ v) at (flipped here ∙ ap (λ b. cond b (not (bit_set ws here)) (bit_set ws here)) (eq-eqb here here refl) ∙ ap not was ∙ not_not v) in
       grind (arith, nat_tests, e, within, now-lit))
       (λ (e : (eqb t.label x && eqb t.from y && eqb t.to z) ≡ false).
       ⊎_elim
       (λ (w : (ltb x c.labels && ltb y c.names && ltb z c.names) ≡ true).
       let y-in : y < c.names = grind (arith, nat_tests, w) in
       let z-in : z < c.names = grind (arith, nat_tests, w) in
-      let same = kept (place c.names x y z) (λ same_place. let p = place-apart c.names t.label t.from t.to x y z f_in t_in y-in z-in same_place in grind (arith, nat_tests, e, p)) in
+      let same = kept (place c.names x y z) (λ same_place. let p = place_apart c.names t.label t.from t.to x y z f_in t_in y-in z-in same_place in grind (arith, nat_tests, e, p)) in
       grind (arith, e, same))
       (λ (w : (ltb x c.labels && ltb y c.names && ltb z c.names) ≡ false). grind (arith, e, w))
       (cases_Bool (ltb x c.labels && ltb y c.names && ltb z c.names)))

@@ -4,10 +4,10 @@ use Rattle.std.proofs.lemmas.Bool.{cases_eq, cond_both}
 use Rattle.std.proofs.lemmas.Bool.Decides.{nat_tests}
 use Rattle.book.specs.Meaning.{sum_below, count_below, count2, count3, at2, at3}
 
-pub sum_below-same : (n : ℕ) (f g : ℕ → ℕ) → ((k : ℕ) → k < n → f k ≡ g k) → sum_below n f ≡ sum_below n g
-sum_below-same zero f g h = refl
-sum_below-same (suc n) f g h =
-    let rest = sum_below-same n f g (λ k lt. h k (omega arith)) in
+pub sum_below_same : (n : ℕ) (f g : ℕ → ℕ) → ((k : ℕ) → k < n → f k ≡ g k) → sum_below n f ≡ sum_below n g
+sum_below_same zero f g h = refl
+sum_below_same (suc n) f g h =
+    let rest = sum_below_same n f g (λ k lt. h k (omega arith)) in
     let here = h n (omega arith) in
     omega (arith, rest, here)
 
@@ -16,7 +16,7 @@ pub sum_below_one : (n i : ℕ) (f g : ℕ → ℕ) → i < n → g i ≡ f i + 
 sum_below_one zero i f g lt more other = omega arith
 sum_below_one (suc n) i f g lt more other =
     ⊎_elim
-    (λ e. let rest = sum_below-same n f g (λ k l. other k (λ x. omega arith)) in
+    (λ e. let rest = sum_below_same n f g (λ k l. other k (λ x. omega arith)) in
     let here : g n ≡ f n + 1 = subst (λ j. g j ≡ f j + 1) e more in
     omega (arith, rest, here))
     (λ ne. let rest = sum_below_one n i f g (omega arith) more other in
@@ -33,7 +33,7 @@ count2_one a b p q k n k-in n-in off on other =
     (sum_below_one b n _ _ n-in
     (ap (λ v. cond v 1 0) on ∙ ap (λ v. cond v 1 0 + 1) (sym off))
     (λ y ne. ap (λ v. cond v 1 0) (other k y (λ e. ne e.1))))
-    (λ x ne. sum_below-same b _ _ (λ y lt. ap (λ v. cond v 1 0) (other x y (λ e. ne e.0))))
+    (λ x ne. sum_below_same b _ _ (λ y lt. ap (λ v. cond v 1 0) (other x y (λ e. ne e.0))))
 
 -- the same at (l, f, t)
 pub count3_one : (a b : ℕ) (p q : ℕ → ℕ → ℕ → Bool) (l f t : ℕ) → l < a → f < b → t < b → p l f t ≡ false → q l f t ≡ true
@@ -42,7 +42,7 @@ pub count3_one : (a b : ℕ) (p q : ℕ → ℕ → ℕ → Bool) (l f t : ℕ) 
 count3_one a b p q l f t l-in f-in t-in off on other =
     sum_below_one a l _ _ l-in
     (count2_one b b (p l) (q l) f t f-in t-in off on (λ y z ne. other l y z (λ e. ne (e.1, e.2))))
-    (λ x ne. sum_below-same b _ _ (λ y lt. sum_below-same b _ _ (λ z lt'. ap (λ v. cond v 1 0) (other x y z (λ e. ne e.0)))))
+    (λ x ne. sum_below_same b _ _ (λ y lt. sum_below_same b _ _ (λ z lt'. ap (λ v. cond v 1 0) (other x y z (λ e. ne e.0)))))
 
 module _ (a b : ℕ) (p : ℕ → ℕ → Bool) (k n : ℕ) (k-in : k < a) (n-in : n < b) where
   pub count2_put : p k n ≡ false → count2 a b (at2 p k n true) ≡ count2 a b p + 1
@@ -73,12 +73,12 @@ count2_le a b p = sum_below_le a b (λ x. count_below b (p x)) (λ x. count_belo
 pub count3_le : (a b : ℕ) (p : ℕ → ℕ → ℕ → Bool) → count3 a b p ≤ a * b * b
 count3_le a b p = omega (arith, sum_below_le a (b * b) (λ x. count2 b b (p x)) (λ x. count2_le b b (p x)), mul_assoc a b b)
 
-pub sum_below-none : (n : ℕ) (f : ℕ → ℕ) → ((k : ℕ) → f k ≡ 0) → sum_below n f ≡ 0
-sum_below-none zero f h = refl
-sum_below-none (suc n) f h = omega (arith, sum_below-none n f h, h n)
+pub sum_below_none : (n : ℕ) (f : ℕ → ℕ) → ((k : ℕ) → f k ≡ 0) → sum_below n f ≡ 0
+sum_below_none zero f h = refl
+sum_below_none (suc n) f h = omega (arith, sum_below_none n f h, h n)
 
-pub count2-none : (a b : ℕ) (p : ℕ → ℕ → Bool) → ((x y : ℕ) → p x y ≡ false) → count2 a b p ≡ 0
-count2-none a b p h = sum_below-none a _ (λ x. sum_below-none b _ (λ y. ap (λ v. cond v 1 0) (h x y)))
+pub count2_none : (a b : ℕ) (p : ℕ → ℕ → Bool) → ((x y : ℕ) → p x y ≡ false) → count2 a b p ≡ 0
+count2_none a b p h = sum_below_none a _ (λ x. sum_below_none b _ (λ y. ap (λ v. cond v 1 0) (h x y)))
 
-pub count3-none : (a b : ℕ) (p : ℕ → ℕ → ℕ → Bool) → ((x y z : ℕ) → p x y z ≡ false) → count3 a b p ≡ 0
-count3-none a b p h = sum_below-none a _ (λ x. count2-none b b (p x) (h x))
+pub count3_none : (a b : ℕ) (p : ℕ → ℕ → ℕ → Bool) → ((x y z : ℕ) → p x y z ≡ false) → count3 a b p ≡ 0
+count3_none a b p h = sum_below_none a _ (λ x. count2_none b b (p x) (h x))

@@ -40,8 +40,8 @@ marked_by m k n v p ok h =
 pub entering-there : (m : Meaning) (t : Tie) → tie_within m.counts t ≡ true → has m t ≡ true → entering m t ≡ Ok tt
 entering-there m t within there = grind (arith, nat_tests, within, there)
 
-pub entering-room : (m : Meaning) (t : Tie) → tie_within m.counts t ≡ true → ties_of m < m.capacity → entering m t ≡ Ok tt
-entering-room m t within room = grind (arith, nat_tests, within, room)
+pub entering_room : (m : Meaning) (t : Tie) → tie_within m.counts t ≡ true → ties_of m < m.capacity → entering m t ≡ Ok tt
+entering_room m t within room = grind (arith, nat_tests, within, room)
 
 pub entering_full : (m : Meaning) (t : Tie) → tie_within m.counts t ≡ true → has m t ≡ false → m.capacity ≤ ties_of m → entering m t ≡ Err Full
 entering_full m t within absent full = grind (arith, nat_tests, within, absent, full)
@@ -50,8 +50,8 @@ pub entered_refused : (m : Meaning) (t : Tie) (e : EnterRefusal) → entering m 
 entered_refused m t e h = sym (ap (λ r. cond (is_ok r) (with_ties m (at3 m.tied t.label t.from t.to true)) m) h)
 
 -- from a function that knows its range test by `cond`
-pub marked-either : (m : Meaning) (k n : ℕ) (v : Bool) (p : ℕ → ℕ → Bool) → p ≡ cond (mark_within m.counts k n) (at2 m.marked k n v) m.marked → with_marks m p ≡ marked_as m k n v
-marked-either m k n v p e =
+pub marked_either : (m : Meaning) (k n : ℕ) (v : Bool) (p : ℕ → ℕ → Bool) → p ≡ cond (mark_within m.counts k n) (at2 m.marked k n v) m.marked → with_marks m p ≡ marked_as m k n v
+marked_either m k n v p e =
     ap (with_marks m) e ∙ cond_out (mark_within m.counts k n)
   where
     cond_out : (w : Bool) → with_marks m (cond w (at2 m.marked k n v) m.marked) ≡ cond w (with_marks m (at2 m.marked k n v)) m

@@ -4,7 +4,7 @@ use Rattle.std.proofs.lemmas.Bool.Decides.{nat_tests}
 use Rattle.book.specs.declared.counts.Counts.{Counts}
 use Rattle.book.specs.Limits.{within, least, made_counts}
 use Rattle.book.specs.Meaning.{Meaning, opened}
-use Rattle.book_laws.proofs.Counting.{count3-none}
+use Rattle.book_laws.proofs.Counting.{count3_none}
 use Rattle.book_laws.proofs.Moves.{fun_ext3}
 use Rattle.list_book.specs.Listed.{listed, Once, Inside, Counted}
 use Rattle.list_book.specs.ListBooks.{made_meaning}
@@ -21,13 +21,13 @@ pub inside_nil : (c : Counts) → Inside c []
 inside_nil c l f t = grind (arith, nat_tests, times_nil l f t)
 
 pub counted_nil : (c : Counts) → Counted c [] 0
-counted_nil c = sym (count3-none c.labels c.names _ unlisted)
+counted_nil c = sym (count3_none c.labels c.names _ unlisted)
 
 pub limit_is : (c : Counts) (k n limit : ℕ) → k ≡ n → limit ≡ (made_meaning c k).capacity → limit ≡ (made_meaning c n).capacity
 limit_is c k n limit e h = h ∙ ap (λ x. (made_meaning c x).capacity) e
 
-pub limit-fits : (c : Counts) (n : ℕ) → (made_meaning c n).capacity ≤ n
-limit-fits c n = by (within c)
+pub limit_fits : (c : Counts) (n : ℕ) → (made_meaning c n).capacity ≤ n
+limit_fits c n = by (within c)
   where
     by : (w : Bool) → (cond w (opened c (min n 4096)) (opened least 0)).capacity ≤ n
     by true = omega arith

@@ -12,15 +12,15 @@ use Rattle.book.specs.Limits.{made_counts}
 use Rattle.marks.specs.MarkBits.{marks_in, CountedMarks}
 use Rattle.book.specs.Meaning.{at2, count2}
 use Rattle.bits.proofs.BitLaws.{unlit}
-use Rattle.book_laws.proofs.Counting.{count2_put, count2_cut, count2-none, count2_le}
+use Rattle.book_laws.proofs.Counting.{count2_put, count2_cut, count2_none, count2_le}
 use Rattle.book_laws.proofs.Moves.{fun_ext2}
 
 pub and_false : (a b : Bool) → b ≡ false → (a && b) ≡ false
 and_false a b e = grind (arith, e)
 
-not-not : (b : Bool) → not (not b) ≡ b
-not-not true = refl
-not-not false = refl
+not_not : (b : Bool) → not (not b) ≡ b
+not_not true = refl
+not_not false = refl
 
 -- what a range test that was passed tells
 pub ranged_ok : (w : Bool) (u : Unit {0}) → Ok u ≡ ranged w → w ≡ true
@@ -53,7 +53,7 @@ pub unmarked : (c : Counts) (n x y : ℕ) → marks_in c (replicate n 0) x y ≡
 unmarked c n x y = and_false _ _ (unlit n (64 * x + y))
 
 pub unmarked_counted : (c : Counts) (n : ℕ) → CountedMarks c (replicate n 0) 0
-unmarked_counted c n = sym (count2-none c.marks c.names _ (unmarked c n))
+unmarked_counted c n = sym (count2_none c.marks c.names _ (unmarked c n))
 
 -- the bit of one mark fact was turned over
 module _ (c : Counts) (ws vs : List ℕ) (k n : ℕ) (few : c.names ≤ 64) (within : mark_within c k n ≡ true)
@@ -70,7 +70,7 @@ module _ (c : Counts) (ws vs : List ℕ) (k n : ℕ) (few : c.names ≤ 64) (wit
       (λ (e : (eqb k x && eqb n y) ≡ true).
       let at : 64 * k + n ≡ 64 * x + y = grind (arith, nat_tests, e) in
       let now-lit : bit_set vs (64 * x + y) ≡ v =
-      subst (λ j. bit_set vs j ≡ v) at (flipped (64 * k + n) ∙ ap (λ b. cond b (not (bit_set ws (64 * k + n))) (bit_set ws (64 * k + n))) (eq-eqb (64 * k + n) (64 * k + n) refl) ∙ ap not was ∙ not-not v) in
+      subst (λ j. bit_set vs j ≡ v) at (flipped (64 * k + n) ∙ ap (λ b. cond b (not (bit_set ws (64 * k + n))) (bit_set ws (64 * k + n))) (eq-eqb (64 * k + n) (64 * k + n) refl) ∙ ap not was ∙ not_not v) in
       grind (arith, nat_tests, e, within, now-lit))
       (λ (e : (eqb k x && eqb n y) ≡ false).
       ⊎_elim

@@ -16,7 +16,7 @@ use Rattle.policy.specs.Linking.{Tree, write, head}
 use Rattle.policy_words.specs.declared.word.Letter.{Letter}
 use Rattle.policy_words.specs.declared.word.Letter.TheVariants as L
 use Rattle.policy.proofs.Places.{Tells}
-use Rattle.policy.proofs.Tables.{table_is, none, entries-length, stands-whole}
+use Rattle.policy.proofs.Tables.{table_is, none, entries-length, stands_whole}
 use Rattle.policy.proofs.Walks.{below}
 
 each_push : (ws : List Word) (w : Word) → each_allowed ws ≡ true → allowed w ≡ true → each_allowed (ws ++ w ∷ []) ≡ true
@@ -44,13 +44,13 @@ forbidden_here ws k lt e h = (
 pub front : (n : ℕ) (xs : List Entry) → mid_of 0 (n - 0) xs ≡ take n xs
 front n xs = ap (λ k. take k xs) (omega arith)
 
-later-none : (o : Option ℕ) → later 0 o ≡ o
-later-none None = refl
-later-none (Some k) = ap Some (omega arith)
+later_none : (o : Option ℕ) → later 0 o ≡ o
+later_none None = refl
+later_none (Some k) = ap Some (omega arith)
 
 -- a walk from the first word of the table
 pub from_start : (x o : Option ℕ) (P : ℕ → Type 0) → Tells o P → x ≡ later 0 o → Tells x P
-from_start x o P t e = subst (λ y. Tells y P) (sym (e ∙ later-none o)) t
+from_start x o P t e = subst (λ y. Tells y P) (sym (e ∙ later_none o)) t
 
 pub has-given : (v : Letter) → has v (record { requester = true; resource = true; a = false; b = false }) ≡ given v
 has-given L.Requester = refl
@@ -70,5 +70,5 @@ pub ready : (ws : List Word) (table : List Entry) (f : Formula) → words f ≡ 
 ready ws table f e le long h =
     let w = table_is f ws table e (omega arith) h in
     let t = front (length ws) table ∙ w in
-    let s = stands-whole f _ t in
+    let s = stands_whole f _ t in
     record { is = t; stands = s; few = omega (arith, ap length t, entries-length f 0, ap length e); within = below _ _ f s; whole = w }

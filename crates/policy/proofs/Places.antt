@@ -123,13 +123,13 @@ or_right : (a b : Bool) → b ≡ true → (a || b) ≡ true
 or_right true b e = refl
 or_right false b e = e
 
-not-and : (a b : Bool) → (not a && b) ≡ true → (a ≡ false) × (b ≡ true)
-not-and true b e = absurd (false≢true e)
-not-and false b e = (refl, e)
+not_and : (a b : Bool) → (not a && b) ≡ true → (a ≡ false) × (b ≡ true)
+not_and true b e = absurd (false≢true e)
+not_and false b e = (refl, e)
 
-not-and_from : (a b : Bool) → a ≡ false → b ≡ true → (not a && b) ≡ true
-not-and_from true b e h = absurd (true≢false e)
-not-and_from false b e h = h
+not_and_from : (a b : Bool) → a ≡ false → b ≡ true → (not a && b) ≡ true
+not_and_from true b e h = absurd (true≢false e)
+not_and_from false b e h = h
 
 or_other : (a b : Bool) → a ≡ false → (a || b) ≡ true → b ≡ true
 or_other true b e h = absurd (true≢false e)
@@ -138,14 +138,14 @@ or_other false b e h = h
 set_there : (s : Letter → Bool) (v u : Letter) → alike v u ≡ true → s u ≡ true → s v ≡ true
 set_there s v u e h = ap s (alike_same v u e) ∙ h
 
-not-loose : (b : Bool) → (b ≡ false → ⊥) → b ≡ true
-not-loose true n = refl
-not-loose false n = absurd (n refl)
+not_loose : (b : Bool) → (b ≡ false → ⊥) → b ≡ true
+not_loose true n = refl
+not_loose false n = absurd (n refl)
 
 -- no loose word: only letters that are set are free
 free_set : (f : Formula) (s : Letter → Bool) → Nowhere (Loose s f) → (v : Letter) → free v f ≡ true → s v ≡ true
 free_set (is n) s h v e = absurd (false≢true e)
-free_set (same u) s h v e = set_there s v u e (not-loose (s u) (λ x. h 0 (refl, x)))
+free_set (same u) s h v e = set_there s v u e (not_loose (s u) (λ x. h 0 (refl, x)))
 free_set (has m) s h v e = absurd (false≢true e)
 free_set (neg f) s h v e = free_set f s (λ k l. h (1 + k) (k, refl, l)) v e
 free_set (both f g) s h v e = elim (or_cases (free v f) (free v g) e) [
@@ -157,18 +157,18 @@ free_set (either f g) s h v e = elim (or_cases (free v f) (free v g) e) [
   | inr b ↦ free_set g s (λ k l. h (1 + size f + k) (inr (k, refl, l))) v b
 ]
 free_set (at_letter u f) s h v e = elim (or_cases (alike v u) (free v f) e) [
-  | inl a ↦ set_there s v u a (not-loose (s u) (λ x. h 0 (inl (refl, x))))
+  | inl a ↦ set_there s v u a (not_loose (s u) (λ x. h 0 (inl (refl, x))))
   | inr b ↦ free_set f s (λ k l. h (1 + k) (inr (k, refl, l))) v b
 ]
 free_set (at_name n f) s h v e = free_set f s (λ k l. h (1 + k) (k, refl, l)) v e
 free_set (bind u f) s h v e =
-    let p = not-and (alike v u) (free v f) e in
+    let p = not_and (alike v u) (free v f) e in
     or_other (alike v u) (s v) p.0 (free_set f (setting u s) (λ k l. h (1 + k) (k, refl, l)) v p.1)
 free_set (some p f) s h v e = free_set f s (λ k l. h (1 + extent p + k) (k, refl, l)) v e
 
-free-under-bind : (s : Letter → Bool) (v u : Letter) (b : Bool) → alike v u ≡ b → (b ≡ false → s v ≡ true) → setting u s v ≡ true
-free-under-bind s v u true e h = or_left (alike v u) (s v) e
-free-under-bind s v u false e h = or_right (alike v u) (s v) (h refl)
+free_under_bind : (s : Letter → Bool) (v u : Letter) (b : Bool) → alike v u ≡ b → (b ≡ false → s v ≡ true) → setting u s v ≡ true
+free_under_bind s v u true e h = or_left (alike v u) (s v) e
+free_under_bind s v u false e h = or_right (alike v u) (s v) (h refl)
 
 set_nowhere : (f : Formula) (s : Letter → Bool) → ((v : Letter) → free v f ≡ true → s v ≡ true) → Nowhere (Loose s f)
 set_nowhere (is n) s h k l = l
@@ -188,11 +188,11 @@ set_nowhere (at_letter u f) s h k l = elim l [
   | inr b ↦ set_nowhere f s (λ v e. h v (or_right (alike v u) (free v f) e)) b.0 b.2
 ]
 set_nowhere (at_name n f) s h k l = set_nowhere f s h l.0 l.2
-set_nowhere (bind u f) s h k l = set_nowhere f (setting u s) (λ v e. free-under-bind s v u (alike v u) refl (λ x. h v (not-and_from (alike v u) (free v f) x e))) l.0 l.2
+set_nowhere (bind u f) s h k l = set_nowhere f (setting u s) (λ v e. free_under_bind s v u (alike v u) refl (λ x. h v (not_and_from (alike v u) (free v f) x e))) l.0 l.2
 set_nowhere (some p f) s h k l = set_nowhere f s h l.0 l.2
 
-pub closed-is-free : ClosedIsFree
-closed-is-free f = (free_set f given, set_nowhere f given)
+pub closed_is_free : ClosedIsFree
+closed_is_free f = (free_set f given, set_nowhere f given)
 
 -- anchored: no word is stray
 pub anchored_nowhere : (f : Formula) → Anchored f → Nowhere (Stray f)
@@ -220,8 +220,8 @@ nowhere_anchored (at_name n f) h = absurd (h 0 refl)
 nowhere_anchored (bind v f) h = absurd (h 0 refl)
 nowhere_anchored (some p f) h = absurd (h 0 refl)
 
-pub anchored-is : AnchoredIsAstrayNowhere
-anchored-is f = (anchored_nowhere f, nowhere_anchored f)
+pub anchored_is : AnchoredIsAstrayNowhere
+anchored_is f = (anchored_nowhere f, nowhere_anchored f)
 
 -- what the functions tell
 pub told : (o : Option ℕ) (x : Option ℕ) (P : ℕ → Type 0) → Tells o P → x ≡ o → Tells x P

@@ -167,5 +167,5 @@ stands_in (some p f) es k rest h =
     let q = o.then ∙ append_assoc (path_entries (k + 1) p) (entries (k + 1 + extent p) f) rest in
     (o.reads, path_stands p es (k + 1) _ q, stands_in f es (k + 1 + extent p) rest (behind es (k + 1) (extent p) _ _ q (path_length p (k + 1))))
 
-pub stands-whole : (f : Formula) (es : List Entry) → es ≡ entries 0 f → Stands es 0 f
-stands-whole f es e = stands_in f es 0 [] (e ∙ sym (append-nil (entries 0 f)))
+pub stands_whole : (f : Formula) (es : List Entry) → es ≡ entries 0 f → Stands es 0 f
+stands_whole f es e = stands_in f es 0 [] (e ∙ sym (append-nil (entries 0 f)))

@@ -18,7 +18,7 @@ use Rattle.policy_reader.specs.Told.{EachSpells, Told, Gave}
 use Rattle.policy_reader.specs.declared.fault.PolicyFault.{PolicyFault}
 use Rattle.policy_reader.specs.declared.fault.PolicyFault.TheVariants as P
 use Rattle.policy_reader.proofs.OneWord.{spells_one, wrong_spells, wrong_one}
-use Rattle.policy_reader.proofs.Telling.{each-length, each_take, each_at}
+use Rattle.policy_reader.proofs.Telling.{each_length, each_take, each_at}
 
 each_one : (r : Roll) (vs us : List Word) (bs : List (List ℕ)) → EachSpells r vs bs → EachSpells r us bs → vs ≡ us
 each_one r [] [] bs x y = refl
@@ -56,7 +56,7 @@ module _ (r : Roll) (t : List ℕ) where
   not_after : (k j : ℕ) (vs us : List Word) → Halt k vs → Halt j us → k < j → ⊥
   not_after k j vs us a b lt =
       let there : k < length ws = omega (arith, b.within) in
-      let long : length us ≡ j = each-length r us (take j ws) b.before ∙ length-take-le j ws b.within in
+      let long : length us ≡ j = each_length r us (take j ws) b.before ∙ length-take-le j ws b.within in
       let w = get_or us k (W.Name 0) in
       let s : Spells r w (get_or ws k []) = subst (Spells r w) (get_or-take j ws k [] lt) (each_at r us (take j ws) k b.before (omega (arith, long))) in
       let same : take k us ≡ vs = each_one r (take k us) vs (take k ws) (subst (EachSpells r (take k us)) (take-take k j ws (omega arith)) (each_take r us (take j ws) k b.before)) a.before in
@@ -68,8 +68,8 @@ module _ (r : Roll) (t : List ℕ) where
     | inr ge ↦ elim (cases_lt j k) [ inl lt ↦ absurd (not_after j k us vs b a lt) | inr le ↦ omega arith ]
   ]
 
-  same-words : (k j : ℕ) (vs us : List Word) → Halt k vs → Halt j us → vs ≡ us
-  same-words k j vs us a b = each_one r vs us (take k ws) a.before (subst (λ n. EachSpells r us (take n ws)) (sym (same_place k j vs us a b)) b.before)
+  same_words : (k j : ℕ) (vs us : List Word) → Halt k vs → Halt j us → vs ≡ us
+  same_words k j vs us a b = each_one r vs us (take k ws) a.before (subst (λ n. EachSpells r us (take n ws)) (sym (same_place k j vs us a b)) b.before)
 
   -- what is told where the first k words vs are read
   abbrev Case : ℕ → List Word → Result Formula PolicyFault → Type 0
@@ -203,7 +203,7 @@ module _ (r : Roll) (t : List ℕ) where
   one_answer x y a b =
       let p = at x a in
       let q = at y b in
-      agree p.k p.vs x y p.is (subst (λ l. Case p.k l y) (sym (same-words p.k q.k p.vs q.vs p.halt q.halt)) (subst (λ n. Case n q.vs y) (sym (same_place p.k q.k p.vs q.vs p.halt q.halt)) q.is))
+      agree p.k p.vs x y p.is (subst (λ l. Case p.k l y) (sym (same_words p.k q.k p.vs q.vs p.halt q.halt)) (subst (λ n. Case n q.vs y) (sym (same_place p.k q.k p.vs q.vs p.halt q.halt)) q.is))
 
   -- what was given is all that is to be told
   pub only_given : (res : Result Policy PolicyFault) → (x : Result Formula PolicyFault) × Gave res x × Told r t x → (y : Result Formula PolicyFault) → Told r t y → Gave res y

@@ -6,7 +6,7 @@ use Rattle.roll.specs.Rolls.{number_of}
 use Rattle.roll.specs.declared.list.List.{List as Which}
 use Rattle.roll.specs.declared.list.List.TheVariants.{Names, Labels, Marks}
 use Rattle.roll.specs.declared.roll.Roll.{Roll}
-use Rattle.roll.proofs.Walks.{some_is, none-some}
+use Rattle.roll.proofs.Walks.{some_is, none_some}
 use Rattle.policy_words.specs.declared.word.Letter.{Letter}
 use Rattle.policy_words.specs.declared.word.Letter.TheVariants as L
 use Rattle.policy_words.specs.declared.word.Word.{Word}
@@ -70,8 +70,8 @@ operand_back S.Stay o = refl
 same_cut : (s u : Sign) (o p : List ℕ) → mark s ++ o ≡ mark u ++ p → (s ≡ u) × (o ≡ p)
 same_cut s u o p e = (some_is s u (sym (sign_back s o) ∙ ap sign_at e ∙ sign_back u p), sym (operand_back s o) ∙ ap operand_at e ∙ operand_back u p)
 
-mark-some : (s : Sign) (o : List ℕ) → mark s ++ o ≡ [] → ⊥
-mark-some s o e = none-some s (sym (ap sign_at e) ∙ sign_back s o)
+mark_some : (s : Sign) (o : List ℕ) → mark s ++ o ≡ [] → ⊥
+mark_some s o e = none_some s (sym (ap sign_at e) ∙ sign_back s o)
 
 -- the word of a sign and an operand
 abbrev number_by : Roll → Which → List ℕ → ℕ
@@ -172,7 +172,7 @@ good_breaks b o M C.Length g m h = h.1 g.1
 good_breaks b o M C.Unlisted g m h = h.2 m
 
 unsigned_cut : (b : List ℕ) (c : Cause) (s : Sign) (o : List ℕ) → b ≡ mark s ++ o → Unsigned b c → ⊥
-unsigned_cut b C.Empty s o e u = mark-some s o (sym e ∙ u)
+unsigned_cut b C.Empty s o e u = mark_some s o (sym e ∙ u)
 unsigned_cut b C.Sign s o e u = u.1 s o e
 unsigned_cut b C.Byte s o e u = u
 unsigned_cut b C.Length s o e u = u

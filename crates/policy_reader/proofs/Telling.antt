@@ -25,11 +25,11 @@ use Rattle.policy_reader.specs.declared.fault.WordFault.{WordFault}
 use Rattle.policy_reader.specs.declared.fault.PolicyFault.{PolicyFault}
 use Rattle.policy_reader.specs.declared.fault.PolicyFault.TheVariants as P
 
-pub each-length : (r : Roll) (vs : List Word) (bs : List (List ℕ)) → EachSpells r vs bs → length vs ≡ length bs
-each-length r [] [] h = refl
-each-length r [] (b ∷ bs) h = absurd h
-each-length r (v ∷ vs) [] h = absurd h
-each-length r (v ∷ vs) (b ∷ bs) h = ap suc (each-length r vs bs h.1)
+pub each_length : (r : Roll) (vs : List Word) (bs : List (List ℕ)) → EachSpells r vs bs → length vs ≡ length bs
+each_length r [] [] h = refl
+each_length r [] (b ∷ bs) h = absurd h
+each_length r (v ∷ vs) [] h = absurd h
+each_length r (v ∷ vs) (b ∷ bs) h = ap suc (each_length r vs bs h.1)
 
 pub each_take : (r : Roll) (vs : List Word) (bs : List (List ℕ)) (k : ℕ) → EachSpells r vs bs → EachSpells r (take k vs) (take k bs)
 each_take r [] [] zero h = tt

@@ -6,9 +6,9 @@ use Rattle.std.proofs.lemmas.List.{take_more, take_all}
 use Rattle.requests.specs.Decimal.{digits, value, written}
 use Rattle.requests.specs.Operands.{behind_hash}
 
-value-more : (n : ℕ) (xs : List ℕ) (b : ℕ) → value n (xs ++ (b ∷ [])) ≡ 10 * value n xs + (b - 48)
-value-more n [] b = refl
-value-more n (x ∷ xs) b = value-more (10 * n + (x - 48)) xs b
+value_more : (n : ℕ) (xs : List ℕ) (b : ℕ) → value n (xs ++ (b ∷ [])) ≡ 10 * value n xs + (b - 48)
+value_more n [] b = refl
+value_more n (x ∷ xs) b = value_more (10 * n + (x - 48)) xs b
 
 digits_more : (xs : List ℕ) (b : ℕ) → digits xs ≡ true → 48 ≤ b → b ≤ 57 → digits (xs ++ (b ∷ [])) ≡ true
 digits_more [] b e low high = grind (arith, nat_tests)
@@ -44,7 +44,7 @@ module _ (w : List ℕ) (i : ℕ) (in-word : i < length w) where
 
   pub value_next : (n most m : ℕ) → n ≡ min (value 0 (take i w)) most → m ≡ min (10 * n + (get_or w i 0 - 48)) most → m ≡ min (value 0 (take (i + 1) w)) most
   value_next n most m is e =
-      let more : value 0 (take (i + 1) w) ≡ 10 * value 0 (take i w) + (get_or w i 0 - 48) = ap (value 0) step ∙ value-more 0 (take i w) (get_or w i 0) in
+      let more : value 0 (take (i + 1) w) ≡ 10 * value 0 (take i w) + (get_or w i 0 - 48) = ap (value 0) step ∙ value_more 0 (take i w) (get_or w i 0) in
       omega (arith, is, e, more)
 
 -- a number behind `#`

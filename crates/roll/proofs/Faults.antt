@@ -23,7 +23,7 @@ use Rattle.roll.specs.declared.list.ListFault.{ListFault}
 use Rattle.roll.specs.declared.list.ListFault.TheVariants.{Word, CountOrRepeat}
 use Rattle.roll.specs.declared.roll.Roll.{Roll}
 use Rattle.roll.specs.declared.roll.RollFault.{RollFault}
-use Rattle.roll.proofs.Walks.{some_is, none-some, place_none, place_word, place_of_lem, word_here, word_there}
+use Rattle.roll.proofs.Walks.{some_is, none_some, place_none, place_word, place_of_lem, word_here, word_there}
 
 -- the first faulty word
 
@@ -75,7 +75,7 @@ wrong_tail at w ws f e r = record {
 }
 
 wrong_from : (ws : Seq (Seq ℕ)) (at : ℕ) (f : WordFault) → first_fault at ws ≡ Some f → WrongFrom at ws f
-wrong_from [] at f e = absurd (none-some f e)
+wrong_from [] at f e = absurd (none_some f e)
 wrong_from (w ∷ ws) at f e =
     elim (cause_cases (cause_of w)) [
       | inl n ↦ wrong_tail at w ws f n (wrong_from ws (at + length w + 1) f (sym (fault_passed at (at + length w + 1) (w ∷ ws) ws w refl n (λ _. refl)) ∙ e))
@@ -95,18 +95,18 @@ wrong_first (w ∷ ws) (suc place) at f lt before here starts =
     fault_passed at (at + length w + 1) (w ∷ ws) ws w refl (fine_cause w (before 0 (omega arith))) (λ _. refl)
     ∙ wrong_first ws place (at + length w + 1) f (omega arith) (λ k l. before (suc k) (omega arith)) here (starts ∙ omega arith)
 
-each-fine : (ws : Seq (Seq ℕ)) (at : ℕ) → first_fault at ws ≡ None → (k : ℕ) → k < length ws → Fine (get_or ws k [])
-each-fine [] at e = λ k lt. absurd (omega arith)
-each-fine (w ∷ ws) at e =
+each_fine : (ws : Seq (Seq ℕ)) (at : ℕ) → first_fault at ws ≡ None → (k : ℕ) → k < length ws → Fine (get_or ws k [])
+each_fine [] at e = λ k lt. absurd (omega arith)
+each_fine (w ∷ ws) at e =
     elim (cause_cases (cause_of w)) [
-      | inl n ↦ fine_more w ws (length ws) (caused w None n) (each-fine ws (at + length w + 1) (sym (fault_passed at (at + length w + 1) (w ∷ ws) ws w refl n (λ _. refl)) ∙ e))
-      | inr s ↦ absurd (none-some _ (sym e ∙ fault_here at (w ∷ ws) ws w s.0 refl s.1))
+      | inl n ↦ fine_more w ws (length ws) (caused w None n) (each_fine ws (at + length w + 1) (sym (fault_passed at (at + length w + 1) (w ∷ ws) ws w refl n (λ _. refl)) ∙ e))
+      | inr s ↦ absurd (none_some _ (sym e ∙ fault_here at (w ∷ ws) ws w s.0 refl s.1))
     ]
 
-fine-first : (ws : Seq (Seq ℕ)) (at : ℕ) → ((k : ℕ) → k < length ws → Fine (get_or ws k [])) → first_fault at ws ≡ None
-fine-first [] at h = refl
-fine-first (w ∷ ws) at h =
-    fault_passed at (at + length w + 1) (w ∷ ws) ws w refl (fine_cause w (h 0 (omega arith))) (λ _. refl) ∙ fine-first ws (at + length w + 1) (λ k lt. h (suc k) (omega arith))
+fine_first : (ws : Seq (Seq ℕ)) (at : ℕ) → ((k : ℕ) → k < length ws → Fine (get_or ws k [])) → first_fault at ws ≡ None
+fine_first [] at h = refl
+fine_first (w ∷ ws) at h =
+    fault_passed at (at + length w + 1) (w ∷ ws) ws w refl (fine_cause w (h 0 (omega arith))) (λ _. refl) ∙ fine_first ws (at + length w + 1) (λ k lt. h (suc k) (omega arith))
 
 -- the words together
 
@@ -157,8 +157,8 @@ decides_together list ws = Decides-and _ _ (decides_within (alone list (length w
 
 told_by : (list : List) (ws : Seq (Seq ℕ)) (o : Option WordFault) (b : Bool) → first_fault 0 ws ≡ o → Decides b (Within (alone list (length ws)) × Distinct ws) → ListTold list ws (fault_then o b)
 told_by list ws (Some f) b e d = first_wrong ws f e
-told_by list ws None true e d = record { fine = each-fine ws 0 e; within = (d.0 refl).0; apart = (d.0 refl).1 }
-told_by list ws None false e d = record { fine = each-fine ws 0 e; not_both = λ w a. false≢true (d.1 (w, a)) }
+told_by list ws None true e d = record { fine = each_fine ws 0 e; within = (d.0 refl).0; apart = (d.0 refl).1 }
+told_by list ws None false e d = record { fine = each_fine ws 0 e; not_both = λ w a. false≢true (d.1 (w, a)) }
 
 list_told : (list : List) (ws : Seq (Seq ℕ)) → ListTold list ws (list_fault list ws)
 list_told list ws = told_by list ws (first_fault 0 ws) _ refl (decides_together list ws)
@@ -171,10 +171,10 @@ faulty : (list : List) (ws : Seq (Seq ℕ)) (o : Option WordFault) (b : Bool) �
 faulty list ws o b e h = ap (λ x. fault_then x b) (sym e) ∙ ap (fault_then (first_fault 0 ws)) (sym h)
 
 list_only : (list : List) (ws : Seq (Seq ℕ)) (x : Option ListFault) → ListTold list ws x → x ≡ list_fault list ws
-list_only list ws None h = faulty list ws None true (fine-first ws 0 h.fine) ((decides_together list ws).1 (h.within, h.apart))
+list_only list ws None h = faulty list ws None true (fine_first ws 0 h.fine) ((decides_together list ws).1 (h.within, h.apart))
 list_only list ws (Some (Word f)) h = faulty list ws (Some f) _ (wrong_first ws h.place 0 f h.there h.before h.here (h.starts ∙ omega arith)) refl
 list_only list ws (Some CountOrRepeat) h =
-    faulty list ws None false (fine-first ws 0 h.fine) (refuted _ (λ t. let p = (decides_together list ws).0 t in h.not_both p.0 p.1))
+    faulty list ws None false (fine_first ws 0 h.fine) (refuted _ (λ t. let p = (decides_together list ws).0 t in h.not_both p.0 p.1))
 
 -- what was told is the function's answer
 pub list_as_told : (list : List) (ws : Seq (Seq ℕ)) (x : Option ListFault) → x ≡ list_fault list ws → ListTold list ws x × ((y : Option ListFault) → ListTold list ws y → y ≡ x)
@@ -192,21 +192,21 @@ err_test false = refl
 pub within_if : (c : Counts) → is_err (checked c) ≡ false → Within c
 within_if c e = (decides_within c).0 (not-false _ (sym (err_test (within c)) ∙ e))
 
-not-within_if : (c : Counts) → is_err (checked c) ≡ true → Within c → ⊥
-not-within_if c e h = both_ways (within c) (not-true _ (sym (err_test (within c)) ∙ e)) ((decides_within c).1 h)
+not_within_if : (c : Counts) → is_err (checked c) ≡ true → Within c → ⊥
+not_within_if c e h = both_ways (within c) (not-true _ (sym (err_test (within c)) ∙ e)) ((decides_within c).1 h)
 
 module _ (list : List) (ws : Seq (Seq ℕ)) (count : ℕ) (is : count ≡ min 65 (length ws)) (fine : first_fault 0 ws ≡ None) where
   pub outside : is_err (checked (alone list count)) ≡ true → Some CountOrRepeat ≡ list_fault list ws
   outside e =
       list_only list ws (Some CountOrRepeat) record {
-        fine = each-fine ws 0 fine;
-        not_both = λ w _. not-within_if (alone list count) e (subst (λ n. Within (alone list n)) (omega (arith, few list (length ws) w)) w);
+        fine = each_fine ws 0 fine;
+        not_both = λ w _. not_within_if (alone list count) e (subst (λ n. Within (alone list n)) (omega (arith, few list (length ws) w)) w);
       }
 
   pub repeated : (Distinct (take 64 ws) → ⊥) → Some CountOrRepeat ≡ list_fault list ws
   repeated h =
       list_only list ws (Some CountOrRepeat) record {
-        fine = each-fine ws 0 fine;
+        fine = each_fine ws 0 fine;
         not_both = λ w a. h (subst Distinct (sym (take_all 64 ws (few list (length ws) w))) a);
       }
 
@@ -217,7 +217,7 @@ module _ (list : List) (ws : Seq (Seq ℕ)) (count : ℕ) (is : count ≡ min 65
     pub accepted : Distinct (take 64 ws) → None ≡ list_fault list ws
     accepted d =
         list_only list ws None record {
-          fine = each-fine ws 0 fine;
+          fine = each_fine ws 0 fine;
           within = subst (λ n. Within (alone list n)) exact (within_if (alone list count) e);
           apart = subst Distinct (take_all 64 ws (omega (arith, exact, few list count (within_if (alone list count) e)))) d;
         }
@@ -279,36 +279,36 @@ sound_by r x y z Marks = z
 pub counted : (list : List) (ws : Seq (Seq ℕ)) → Good list ws → min 65 (length ws) ≡ length ws
 counted list ws h = omega (arith, few list (length ws) h.within)
 
-pub counts-within : (r : Roll) → Sound r → Within (counts_of r)
-counts-within r h = record {
+pub counts_within : (r : Roll) → Sound r → Within (counts_of r)
+counts_within r h = record {
   some_name = subst (λ n. 1 ≤ n) (sym (counted Names _ (h Names))) (h Names).within.some_name;
   few_names = subst (λ n. n ≤ 64) (sym (counted Names _ (h Names))) (h Names).within.few_names;
   few_labels = subst (λ n. n ≤ 16) (sym (counted Labels _ (h Labels))) (h Labels).within.few_labels;
   few_marks = subst (λ n. n ≤ 16) (sym (counted Marks _ (h Marks))) (h Marks).within.few_marks;
 }
 
-pub counts-is : (r : Roll) (a b c : ℕ) → a ≡ min 65 (length (words_of r Names)) → b ≡ min 65 (length (words_of r Labels)) → c ≡ min 65 (length (words_of r Marks)) → record { names = a; labels = b; marks = c } ≡ counts_of r
-counts-is r a b c x y z = cc
+pub counts_is : (r : Roll) (a b c : ℕ) → a ≡ min 65 (length (words_of r Names)) → b ≡ min 65 (length (words_of r Labels)) → c ≡ min 65 (length (words_of r Marks)) → record { names = a; labels = b; marks = c } ≡ counts_of r
+counts_is r a b c x y z = cc
 
 -- numbers and words undo each other
 pub number_back : (r : Roll) (list : List) (w : Seq ℕ) (o : Option ℕ) → o ≡ number_of r list w → MatchOption o ((n : ℕ) → word_of r list n ≡ Some w → ⊥) (λ n. word_of r list n ≡ Some w)
 number_back r list w None e = λ n h. let t = word_there n w (numbered (text_of r list)) h in place_none 0 w (numbered (text_of r list)) (sym e) n t.0 t.1
 number_back r list w (Some n) e = let p = place_word (numbered (text_of r list)) w n (sym e) in word_here n w (numbered (text_of r list)) p.0 p.1
 
-numbered-apart : (r : Roll) (list : List) → Sound r → Distinct (numbered (text_of r list))
-numbered-apart r list h = subst Distinct (sym (numbered_all list (text_of r list) (h list).within)) (h list).apart
+numbered_apart : (r : Roll) (list : List) → Sound r → Distinct (numbered (text_of r list))
+numbered_apart r list h = subst Distinct (sym (numbered_all list (text_of r list) (h list).within)) (h list).apart
 
 pub number_again : (r : Roll) (list : List) (w : Seq ℕ) → Sound r → (n : ℕ) → word_of r list n ≡ Some w → number_of r list w ≡ Some n
 number_again r list w h n e =
     let all = numbered (text_of r list) in
     let t = word_there n w all e in
-    ap (λ v. place_of v all) (sym t.1) ∙ place_of_lem all n (numbered-apart r list h) t.0
+    ap (λ v. place_of v all) (sym t.1) ∙ place_of_lem all n (numbered_apart r list h) t.0
 
 pub word_number : (r : Roll) (list : List) (n : ℕ) (o : Option (Seq ℕ)) → o ≡ word_of r list n → Sound r → MatchOption o (length (words_of r list) ≤ n) (λ w. (n < length (words_of r list)) × (number_of r list w ≡ Some n))
 word_number r list n None e h =
     elim (cases_lt n (length (words_of r list))) [
       | inr ge ↦ ge
-      | inl lt ↦ absurd (none-some _ (e ∙ ap (λ ws. slice_get ws n) (numbered_all list (text_of r list) (h list).within) ∙ word_here n _ (words_of r list) lt refl))
+      | inl lt ↦ absurd (none_some _ (e ∙ ap (λ ws. slice_get ws n) (numbered_all list (text_of r list) (h list).within) ∙ word_here n _ (words_of r list) lt refl))
     ]
 word_number r list n (Some w) e h = (
   (word_there n w (words_of r list) (ap (λ ws. slice_get ws n) (sym (numbered_all list (text_of r list) (h list).within)) ∙ sym e)).0,

@@ -35,8 +35,8 @@ step_end n all l here e = omega (arith, length-drop n all, ap length (here ∙ e
 pub some_is : {X : Type 0} (a b : X) → ◌≡◌ {A = Option X} (Some a) (Some b) → a ≡ b
 some_is a b e = cc
 
-pub none-some : {X : Type 0} (a : X) → ◌≡◌ {A = Option X} None (Some a) → ⊥
-none-some a e = let z : ◌≡◌ {A = ℕ} 0 1 = cc in omega arith
+pub none_some : {X : Type 0} (a : X) → ◌≡◌ {A = Option X} None (Some a) → ⊥
+none_some a e = let z : ◌≡◌ {A = ℕ} 0 1 = cc in omega arith
 
 -- d is the first place of w in l
 pub record First (w : List ℕ) (l : List (List ℕ)) (d : ℕ) : Type 0 where
@@ -48,12 +48,12 @@ none_more : (w v : List ℕ) (l : List (List ℕ)) (d : ℕ) → (v ≡ w → �
 none_more w v l d n h zero lt e = n e
 none_more w v l d n h (suc j) lt e = h j (omega arith) e
 
-pub place-some : (n : ℕ) (w : List ℕ) (l : List (List ℕ)) (k : ℕ) → place_from n w l ≡ Some k → (d : ℕ) × (k ≡ n + d) × First w l d
-place-some n w [] k e = absurd (none-some k e)
-place-some n w (v ∷ vs) k e =
+pub place_some : (n : ℕ) (w : List ℕ) (l : List (List ℕ)) (k : ℕ) → place_from n w l ≡ Some k → (d : ℕ) × (k ≡ n + d) × First w l d
+place_some n w [] k e = absurd (none_some k e)
+place_some n w (v ∷ vs) k e =
     elim (cases_Bool (bytes_eq v w)) [
       | inl t ↦ (0, some_is k n (sym e ∙ cond-true (bytes_eq v w) _ _ t) ∙ sym (add-zero n), record { there = omega arith; is = (bytes_eq-Decides v w).0 t; none = λ j lt. absurd (omega arith) })
-      | inr f ↦ let r = place-some (n + 1) w vs k (sym (cond-false (bytes_eq v w) _ _ f) ∙ e) in
+      | inr f ↦ let r = place_some (n + 1) w vs k (sym (cond-false (bytes_eq v w) _ _ f) ∙ e) in
           (suc r.0, omega (arith, r.1), record { there = omega (arith, r.2.there); is = r.2.is; none = none_more w v vs r.0 (λ q. both_ways (bytes_eq v w) f ((bytes_eq-Decides v w).1 q)) r.2.none })
     ]
 
@@ -61,7 +61,7 @@ pub place_none : (n : ℕ) (w : List ℕ) (l : List (List ℕ)) → place_from n
 place_none n w [] e j lt q = absurd (omega arith)
 place_none n w (v ∷ vs) e j lt q =
     elim (cases_Bool (bytes_eq v w)) [
-      | inl t ↦ none-some n (sym e ∙ cond-true (bytes_eq v w) _ _ t)
+      | inl t ↦ none_some n (sym e ∙ cond-true (bytes_eq v w) _ _ t)
       | inr f ↦ none_more w v vs (length vs) (λ x. both_ways (bytes_eq v w) f ((bytes_eq-Decides v w).1 x)) (place_none (n + 1) w vs (sym (cond-false (bytes_eq v w) _ _ f) ∙ e)) j lt q
     ]
 
@@ -80,7 +80,7 @@ place_of_lem l d apart lt =
 
 -- and the word that has the number d is the one at d
 pub place_word : (l : List (List ℕ)) (w : List ℕ) (d : ℕ) → place_of w l ≡ Some d → (d < length l) × (get_or l d [] ≡ w)
-place_word l w d e = let r = place-some 0 w l d e in (omega (arith, r.1, r.2.there), ap (λ k. get_or l k []) (omega (arith, r.1)) ∙ r.2.is)
+place_word l w d e = let r = place_some 0 w l d e in (omega (arith, r.1, r.2.there), ap (λ k. get_or l k []) (omega (arith, r.1)) ∙ r.2.is)
 
 -- the first 64 of a list, of which n are passed
 pub front_step : (n : ℕ) (v : List ℕ) (l m : List (List ℕ)) → n < 64 → l ≡ v ∷ m → take (64 - n) l ≡ v ∷ take (64 - (n + 1)) m
@@ -88,8 +88,8 @@ front_step n v l m lt is =
     let more : 64 - n ≡ suc (64 - (n + 1)) = omega arith in
     ap (λ k. take k l) more ∙ ap (take (suc (64 - (n + 1)))) is
 
-pub front-none : (n : ℕ) (l : List (List ℕ)) → l ≡ [] → take (64 - n) l ≡ []
-front-none n l e = ap (take (64 - n)) e ∙ take_all (64 - n) [] (omega arith)
+pub front_none : (n : ℕ) (l : List (List ℕ)) → l ≡ [] → take (64 - n) l ≡ []
+front_none n l e = ap (take (64 - n)) e ∙ take_all (64 - n) [] (omega arith)
 
 pub front_full : (n : ℕ) (l : List (List ℕ)) → 64 ≤ n → take (64 - n) l ≡ []
 front_full n l le = let none : 64 - n ≡ 0 = omega arith in ap (λ k. take k l) none
@@ -102,7 +102,7 @@ pub word_there : (n : ℕ) (v : List ℕ) (all : List (List ℕ)) → slice_get 
 word_there n v all e =
     elim (cases_lt n (length all)) [
       | inl lt ↦ (lt, some_is _ _ (sym (slice_get-get_or all n [] lt) ∙ e))
-      | inr ge ↦ absurd (none-some v (sym (slice_get_past all n ge) ∙ e))
+      | inr ge ↦ absurd (none_some v (sym (slice_get_past all n ge) ∙ e))
     ]
 
 -- the word v at n has no place before it, where its number is n
@@ -112,7 +112,7 @@ once n l v here is h i j ij jn e =
       | inl less ↦ h i j ij less e
       | inr ge ↦
           let at : get_or l i [] ≡ v = e ∙ ap (λ k. get_or l k []) (omega arith) ∙ here in
-          let r = place-some 0 v l n is in
+          let r = place_some 0 v l n is in
           r.2.none i (omega (arith, r.1)) at
     ]
 

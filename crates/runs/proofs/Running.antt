@@ -10,13 +10,13 @@ use Rattle.book.specs.Meaning.{Meaning, at3, at2, with_ties, with_marks}
 use Rattle.book.specs.Calls.{entering, tie_within, mark_within, ranged}
 use Rattle.runs.specs.Runs.{answer, after, answered, reached, ranging, Item, tie, mark, there, effect, Unaffected, LastDecides}
 
-pub reached-more : (m : Meaning) (xs ys : List Call) → reached m (xs ++ ys) ≡ reached (reached m xs) ys
-reached-more m [] ys = refl
-reached-more m (c ∷ xs) ys = reached-more (after m c) xs ys
+pub reached_more : (m : Meaning) (xs ys : List Call) → reached m (xs ++ ys) ≡ reached (reached m xs) ys
+reached_more m [] ys = refl
+reached_more m (c ∷ xs) ys = reached_more (after m c) xs ys
 
-pub answered-more : (m : Meaning) (xs : List Call) (c : Call) → answered m (xs ++ (c ∷ [])) ≡ answered m xs ++ (answer (reached m xs) c ∷ [])
-answered-more m [] c = refl
-answered-more m (x ∷ xs) c = ap (λ rs. answer m x ∷ rs) (answered-more (after m x) xs c)
+pub answered_more : (m : Meaning) (xs : List Call) (c : Call) → answered m (xs ++ (c ∷ [])) ≡ answered m xs ++ (answer (reached m xs) c ∷ [])
+answered_more m [] c = refl
+answered_more m (x ∷ xs) c = ap (λ rs. answer m x ∷ rs) (answered_more (after m x) xs c)
 
 -- what a book holds, by the two ways in which a call may leave it
 tied_of : (w : Bool) (m : Meaning) (p : ℕ → ℕ → ℕ → Bool) (l f t : ℕ) → (cond w (with_ties m p) m).tied l f t ≡ cond w (p l f t) (m.tied l f t)
@@ -76,33 +76,33 @@ unheard m (LiftMark j o) (tie l f t) quiet = marks_tied (mark_within m.counts j 
 unheard m (LiftMark j o) (mark k n) quiet = marked_of (mark_within m.counts j o) m _ k n ∙ quiet_mark m j o k n false (mark_within m.counts j o) quiet
 
 -- no call alters the counts or the capacity
-cond-counts : (w : Bool) (m n : Meaning) → n.counts ≡ m.counts → (cond w n m).counts ≡ m.counts
-cond-counts true m n e = e
-cond-counts false m n e = refl
+cond_counts : (w : Bool) (m n : Meaning) → n.counts ≡ m.counts → (cond w n m).counts ≡ m.counts
+cond_counts true m n e = e
+cond_counts false m n e = refl
 
-cond-capacity : (w : Bool) (m n : Meaning) → n.capacity ≡ m.capacity → (cond w n m).capacity ≡ m.capacity
-cond-capacity true m n e = e
-cond-capacity false m n e = refl
+cond_capacity : (w : Bool) (m n : Meaning) → n.capacity ≡ m.capacity → (cond w n m).capacity ≡ m.capacity
+cond_capacity true m n e = e
+cond_capacity false m n e = refl
 
-after-counts : (m : Meaning) (c : Call) → (after m c).counts ≡ m.counts
-after-counts m (Enter u) = cond-counts (isOk (entering m u)) m _ refl
-after-counts m (Strike u) = cond-counts (tie_within m.counts u) m _ refl
-after-counts m (SetMark j o) = cond-counts (mark_within m.counts j o) m _ refl
-after-counts m (LiftMark j o) = cond-counts (mark_within m.counts j o) m _ refl
+after_counts : (m : Meaning) (c : Call) → (after m c).counts ≡ m.counts
+after_counts m (Enter u) = cond_counts (isOk (entering m u)) m _ refl
+after_counts m (Strike u) = cond_counts (tie_within m.counts u) m _ refl
+after_counts m (SetMark j o) = cond_counts (mark_within m.counts j o) m _ refl
+after_counts m (LiftMark j o) = cond_counts (mark_within m.counts j o) m _ refl
 
-after-capacity : (m : Meaning) (c : Call) → (after m c).capacity ≡ m.capacity
-after-capacity m (Enter u) = cond-capacity (isOk (entering m u)) m _ refl
-after-capacity m (Strike u) = cond-capacity (tie_within m.counts u) m _ refl
-after-capacity m (SetMark j o) = cond-capacity (mark_within m.counts j o) m _ refl
-after-capacity m (LiftMark j o) = cond-capacity (mark_within m.counts j o) m _ refl
+after_capacity : (m : Meaning) (c : Call) → (after m c).capacity ≡ m.capacity
+after_capacity m (Enter u) = cond_capacity (isOk (entering m u)) m _ refl
+after_capacity m (Strike u) = cond_capacity (tie_within m.counts u) m _ refl
+after_capacity m (SetMark j o) = cond_capacity (mark_within m.counts j o) m _ refl
+after_capacity m (LiftMark j o) = cond_capacity (mark_within m.counts j o) m _ refl
 
-reached-counts : (m : Meaning) (cs : List Call) → (reached m cs).counts ≡ m.counts
-reached-counts m [] = refl
-reached-counts m (c ∷ cs) = reached-counts (after m c) cs ∙ after-counts m c
+reached_counts : (m : Meaning) (cs : List Call) → (reached m cs).counts ≡ m.counts
+reached_counts m [] = refl
+reached_counts m (c ∷ cs) = reached_counts (after m c) cs ∙ after_counts m c
 
-reached-capacity : (m : Meaning) (cs : List Call) → (reached m cs).capacity ≡ m.capacity
-reached-capacity m [] = refl
-reached-capacity m (c ∷ cs) = reached-capacity (after m c) cs ∙ after-capacity m c
+reached_capacity : (m : Meaning) (cs : List Call) → (reached m cs).capacity ≡ m.capacity
+reached_capacity m [] = refl
+reached_capacity m (c ∷ cs) = reached_capacity (after m c) cs ∙ after_capacity m c
 
 unaffected_reached : (m : Meaning) (cs : List Call) (x : Item) → Unaffected m cs x → there (reached m cs) x ≡ there m x
 unaffected_reached m [] x u = refl
@@ -111,13 +111,13 @@ unaffected_reached m (c ∷ cs) x u = unaffected_reached (after m c) cs x u.1 �
 -- The last accepted call that effect something of an item decides.
 pub last_decides : (m : Meaning) (cs : List Call) → LastDecides m cs (reached m cs)
 last_decides m cs = record {
-  counts_stay = reached-counts m cs;
-  capacity_stays = reached-capacity m cs;
+  counts_stay = reached_counts m cs;
+  capacity_stays = reached_capacity m cs;
   unaffected_stays = unaffected_reached m cs;
   last_effect = λ x before c later v e ok s quiet.
-      let here = reached-more m before (c ∷ []) in
+      let here = reached_more m before (c ∷ []) in
       let split : reached m cs ≡ reached (reached m (before ++ (c ∷ []))) later =
-      ap (reached m) e ∙ reached-more m before (c ∷ later) ∙ ap (λ n. reached n later) (sym here) in
+      ap (reached m) e ∙ reached_more m before (c ∷ later) ∙ ap (λ n. reached n later) (sym here) in
       ap (λ n. there n x) split ∙ unaffected_reached (reached m (before ++ (c ∷ []))) later x quiet ∙ ap (λ n. there n x) here ∙ obeyed (reached m before) c x v ok s;
 }
 
@@ -141,7 +141,7 @@ module _ (m : Meaning) (xs : List Call) (old : List (Result (Unit {0}) EnterRefu
       ap (λ ys. set ys i r) whole ∙ set_at front here (drop (i + 1) old) r i long
       ∙ ap (λ a. front ++ (a ∷ drop (i + 1) old)) (e ∙ ap (λ k. answer k (get_or xs i d)) at)
       ∙ sym (append_assoc front (answer (reached m (take i xs)) (get_or xs i d) ∷ []) (drop (i + 1) old))
-      ∙ ap (λ as'. as' ++ drop (i + 1) old) (sym (answered-more m (take i xs) (get_or xs i d)) ∙ ap (answered m) (sym next_calls))
+      ∙ ap (λ as'. as' ++ drop (i + 1) old) (sym (answered_more m (take i xs) (get_or xs i d)) ∙ ap (answered m) (sym next_calls))
 
   pub next_reached : (n k : Meaning) → n ≡ reached m (take i xs) → k ≡ after n (get_or xs i d) → k ≡ reached m (take (i + 1) xs)
-  next_reached n k at e = e ∙ ap (λ j. after j (get_or xs i d)) at ∙ sym (reached-more m (take i xs) (get_or xs i d ∷ [])) ∙ ap (reached m) (sym next_calls)
+  next_reached n k at e = e ∙ ap (λ j. after j (get_or xs i d)) at ∙ sym (reached_more m (take i xs) (get_or xs i d ∷ [])) ∙ ap (reached m) (sym next_calls)

@@ -91,10 +91,10 @@ lacks_onto : (s b : ℕ) (ws : List (List ℕ)) → (b ≡ s → ⊥) → EachLa
 lacks_onto s b [] n hs = ((n, tt), tt)
 lacks_onto s b (w ∷ ws) n hs = ((n, hs.0), hs.1)
 
-pub pieces-lack : (s : ℕ) (t : List ℕ) → EachLacks s (pieces s t)
-pieces-lack s [] = (tt, tt)
-pieces-lack s (b ∷ bs) =
-    cond_both (eqb b s) ([] ∷ pieces s bs) (onto b (pieces s bs)) (EachLacks s) (λ _. (tt, pieces-lack s bs)) (λ e. lacks_onto s b (pieces s bs) (eqb-false b s e) (pieces-lack s bs))
+pub pieces_lack : (s : ℕ) (t : List ℕ) → EachLacks s (pieces s t)
+pieces_lack s [] = (tt, tt)
+pieces_lack s (b ∷ bs) =
+    cond_both (eqb b s) ([] ∷ pieces s bs) (onto b (pieces s bs)) (EachLacks s) (λ _. (tt, pieces_lack s bs)) (λ e. lacks_onto s b (pieces s bs) (eqb-false b s e) (pieces_lack s bs))
 
 pub over_none : (over : Bool) (s : ℕ) (t : List ℕ) → Decides over (cond over [] (pieces s t) ≡ [])
 over_none true s t = (λ _. refl, λ _. refl)
@@ -102,39 +102,39 @@ over_none false s t = (λ e. absurd (false≢true e), λ e. absurd (some_piece s
 
 -- the pieces are what the byte parts, and nothing else is
 pub cut_pieces : (s : ℕ) (t : List ℕ) → Cut s t (pieces s t)
-cut_pieces s t = record { join = joined-pieces s t; lack = pieces-lack s t; some = some_piece s t }
+cut_pieces s t = record { join = joined-pieces s t; lack = pieces_lack s t; some = some_piece s t }
 
 pub cut_only : (s : ℕ) (t : List ℕ) (ws : List (List ℕ)) → Cut s t ws → ws ≡ pieces s t
 cut_only s t [] h = absurd (h.some refl)
 cut_only s t (w ∷ ws) h = sym (pieces-joined s w ws h.lack.0 h.lack.1) ∙ ap (pieces s) h.join
 
 -- the same of words
-words-lack : (t : List ℕ) → EachLacks 32 (words t)
-words-lack [] = tt
-words-lack (b ∷ bs) = pieces-lack 32 (b ∷ bs)
+words_lack : (t : List ℕ) → EachLacks 32 (words t)
+words_lack [] = tt
+words_lack (b ∷ bs) = pieces_lack 32 (b ∷ bs)
 
-not-lone : (t : List ℕ) → words t ≡ [] ∷ [] → ⊥
-not-lone [] e = cons_nil (sym e)
-not-lone (b ∷ bs) e = cons_nil (sym (joined-pieces 32 (b ∷ bs)) ∙ ap (joined 32) e)
+not_lone : (t : List ℕ) → words t ≡ [] ∷ [] → ⊥
+not_lone [] e = cons_nil (sym e)
+not_lone (b ∷ bs) e = cons_nil (sym (joined-pieces 32 (b ∷ bs)) ∙ ap (joined 32) e)
 
 pub cut_words : (t : List ℕ) → WordCut t (words t)
-cut_words t = record { join = joined_words t; lack = words-lack t; some = not-lone t }
+cut_words t = record { join = joined_words t; lack = words_lack t; some = not_lone t }
 
 some_words : (t : List ℕ) → (t ≡ [] → ⊥) → words t ≡ pieces 32 t
 some_words [] h = absurd (h refl)
 some_words (b ∷ bs) h = refl
 
-some-joined : (w : List ℕ) (ws : List (List ℕ)) → (w ∷ ws ≡ [] ∷ [] → ⊥) → joined 32 (w ∷ ws) ≡ [] → ⊥
-some-joined [] [] h e = h refl
-some-joined [] (v ∷ ws) h e = cons_nil e
-some-joined (b ∷ w) ws h e = cons_nil e
+some_joined : (w : List ℕ) (ws : List (List ℕ)) → (w ∷ ws ≡ [] ∷ [] → ⊥) → joined 32 (w ∷ ws) ≡ [] → ⊥
+some_joined [] [] h e = h refl
+some_joined [] (v ∷ ws) h e = cons_nil e
+some_joined (b ∷ w) ws h e = cons_nil e
 
 pub words_only : (t : List ℕ) (ws : List (List ℕ)) → WordCut t ws → ws ≡ words t
 words_only t [] h = ap words h.join
 words_only t (w ∷ ws) h =
     sym (pieces-joined 32 w ws h.lack.0 h.lack.1)
     ∙ ap (pieces 32) h.join
-    ∙ sym (some_words t (λ e. some-joined w ws h.some (h.join ∙ e)))
+    ∙ sym (some_words t (λ e. some_joined w ws h.some (h.join ∙ e)))
 
 pub words_left : (over : Bool) (t : List ℕ) → over ≡ eqb (length t) 0 → cond over [] (pieces 32 t) ≡ words t
 words_left over [] e = cond-true over _ _ e
@@ -144,19 +144,19 @@ pub no_words : (t : List ℕ) → t ≡ [] → words t ≡ []
 no_words t e = ap words e
 
 -- each piece stands in the joined text where it begins
-take-front : (w t : List ℕ) → take (length w) (w ++ t) ≡ w
-take-front w t = take-append-le (length w) w t (omega arith) ∙ take_all (length w) w (omega arith)
+take_front : (w t : List ℕ) → take (length w) (w ++ t) ≡ w
+take_front w t = take-append-le (length w) w t (omega arith) ∙ take_all (length w) w (omega arith)
 
-drop-front : (s : ℕ) (w t : List ℕ) → drop (length w + 1) (w ++ s ∷ t) ≡ t
-drop-front s w t = sym (drop-drop 1 (length w) (w ++ s ∷ t)) ∙ ap (drop 1) (drop_at w (s ∷ t) (length w) refl)
+drop_front : (s : ℕ) (w t : List ℕ) → drop (length w + 1) (w ++ s ∷ t) ≡ t
+drop_front s w t = sym (drop-drop 1 (length w) (w ++ s ∷ t)) ∙ ap (drop 1) (drop_at w (s ∷ t) (length w) refl)
 
-joined-stands : (s : ℕ) (ws : List (List ℕ)) (k : ℕ) → k < length ws → take (length (get_or ws k [])) (drop (start_of k ws) (joined s ws)) ≡ get_or ws k []
-joined-stands s [] k lt = absurd (omega arith)
-joined-stands s (w ∷ ws) zero lt = take-front w (after s ws)
-joined-stands s (w ∷ []) (suc k) lt = absurd (omega arith)
-joined-stands s (w ∷ v ∷ ws) (suc k) lt =
-    ap (take (length (get_or (v ∷ ws) k []))) (sym (drop-drop (start_of k (v ∷ ws)) (length w + 1) _) ∙ ap (drop (start_of k (v ∷ ws))) (drop-front s w (joined s (v ∷ ws))))
-    ∙ joined-stands s (v ∷ ws) k (omega arith)
+joined_stands : (s : ℕ) (ws : List (List ℕ)) (k : ℕ) → k < length ws → take (length (get_or ws k [])) (drop (start_of k ws) (joined s ws)) ≡ get_or ws k []
+joined_stands s [] k lt = absurd (omega arith)
+joined_stands s (w ∷ ws) zero lt = take_front w (after s ws)
+joined_stands s (w ∷ []) (suc k) lt = absurd (omega arith)
+joined_stands s (w ∷ v ∷ ws) (suc k) lt =
+    ap (take (length (get_or (v ∷ ws) k []))) (sym (drop-drop (start_of k (v ∷ ws)) (length w + 1) _) ∙ ap (drop (start_of k (v ∷ ws))) (drop_front s w (joined s (v ∷ ws))))
+    ∙ joined_stands s (v ∷ ws) k (omega arith)
 
 pub stands : (s : ℕ) (t : List ℕ) (ws : List (List ℕ)) → joined s ws ≡ t → (k : ℕ) → k < length ws → take (length (get_or ws k [])) (drop (start_of k ws) t) ≡ get_or ws k []
-stands s t ws e k lt = ap (λ x. take (length (get_or ws k [])) (drop (start_of k ws) x)) (sym e) ∙ joined-stands s ws k lt
+stands s t ws e k lt = ap (λ x. take (length (get_or ws k [])) (drop (start_of k ws) x)) (sym e) ∙ joined_stands s ws k lt

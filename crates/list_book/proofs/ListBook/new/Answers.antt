@@ -1,6 +1,6 @@
 use Rattle.std.proofs.Common.{vec_len, refl, arith}
 use Rattle.marks.specs.MarkBoards.{counts_kept, marks_kept}
-use Rattle.list_book.proofs.Opening.{once_nil, inside_nil, counted_nil, limit_is, limit-fits, made_as}
+use Rattle.list_book.proofs.Opening.{once_nil, inside_nil, counted_nil, limit_is, limit_fits, made_as}
 use Rattle.list_book.proofs.ListBook.new.Goals as goal
 
 pub invariant_of-result : goal.invariant_of-result
@@ -8,7 +8,7 @@ invariant_of-result c =
     let n = vec_len c.args.row in
     let k = counts_kept c.new.result in
     let limit = limit_is c.args.counts _ n _ c.len.ensures c.limit_of-limit.ensures in
-    record { room = omega (arith, limit, limit-fits c.args.counts n); front = omega arith; once = once_nil; inside = inside_nil k; counted = counted_nil k }
+    record { room = omega (arith, limit, limit_fits c.args.counts n); front = omega arith; once = once_nil; inside = inside_nil k; counted = counted_nil k }
 
 pub returns : goal.returns
 returns c =

@@ -1,7 +1,7 @@
 use Rattle.std.proofs.Common.{sym, refl, ◌∙◌}
 use Rattle.std.proofs.lemmas.Bool.{false≢true}
 use Rattle.roll.specs.Lists.{numbered}
-use Rattle.roll.proofs.Walks.{step_word, step_on, step_there, step_end, front_step, front-none, front_full, walked, once, own_number, other_number}
+use Rattle.roll.proofs.Walks.{step_word, step_on, step_there, step_end, front_step, front_none, front_full, walked, once, own_number, other_number}
 use Rattle.roll.proofs.lookup.is_distinct.Goals as goal
 
 pub returns-in_default : goal.returns-in_default
@@ -9,7 +9,7 @@ returns-in_default c =
     let n = c.loop-n.n in
     let all = numbered c.args.text.now in
     let i = c.loop-n.invariant in
-    (λ _. walked n all (step_end n all _ i.0 (front-none n _ c.in_default.ensures.0)) i.1, λ _. refl)
+    (λ _. walked n all (step_end n all _ i.0 (front_none n _ c.in_default.ensures.0)) i.1, λ _. refl)
 
 pub returns-then-first-n : goal.returns-then-first-n
 returns-then-first-n c =

@@ -2,14 +2,14 @@ use Rattle.std.proofs.Common.{sym, ap, ◌∙◌}
 use Rattle.std.proofs.lemmas.Slice.Eq.{slice_eq-Decides}
 use Rattle.std.proofs.lemmas.Bool.{both_ways}
 use Rattle.roll.specs.Lists.{place_from}
-use Rattle.roll.proofs.Walks.{found, passed, front_step, front-none, front_full}
+use Rattle.roll.proofs.Walks.{found, passed, front_step, front_none, front_full}
 use Rattle.roll.proofs.lookup.number_in.Goals as goal
 use Rattle.std.proofs.lemmas.Bool.Decides.{Decides-eqb}
 
 pub returns-in_default : goal.returns-in_default
 returns-in_default c =
     let n = c.loop-n.n in
-    sym (ap (place_from n c.args.word.now) (front-none n _ c.in_default.ensures.0)) ∙ c.loop-n.invariant
+    sym (ap (place_from n c.args.word.now) (front_none n _ c.in_default.ensures.0)) ∙ c.loop-n.invariant
 
 pub returns-then-eq : goal.returns-then-eq
 returns-then-eq c =

@@ -2,7 +2,7 @@ use Rattle.std.proofs.Common.{sym, ap, ◌∙◌, arith}
 use Rattle.std.specs.List.{slice_get}
 use Rattle.std.proofs.lemmas.Option.{slice_get_past}
 use Rattle.roll.specs.Lists.{numbered}
-use Rattle.roll.proofs.Walks.{step_word, step_on, step_there, step_end, front_step, front-none, front_full, word_here}
+use Rattle.roll.proofs.Walks.{step_word, step_on, step_there, step_end, front_step, front_none, front_full, word_here}
 use Rattle.roll.proofs.lookup.word_in.Goals as goal
 
 pub returns-in_default : goal.returns-in_default
@@ -10,7 +10,7 @@ returns-in_default c =
     let n = c.loop-n.n in
     let all = numbered c.args.text.now in
     let i = c.loop-n.invariant in
-    sym (slice_get_past all c.args.number (omega (arith, step_end n all _ i.0 (front-none n _ c.in_default.ensures.0), i.1)))
+    sym (slice_get_past all c.args.number (omega (arith, step_end n all _ i.0 (front_none n _ c.in_default.ensures.0), i.1)))
 
 pub returns-then-n-number : goal.returns-then-n-number
 returns-then-n-number c =

@@ -4,7 +4,7 @@ use Rattle.book.specs.Meaning.{with_ties, ties_of}
 use Rattle.book.specs.Calls.{has}
 use Rattle.marks.specs.MarkBoards.{counts_kept}
 use Rattle.book.specs.declared.refusal.EnterRefusal.TheVariants.{Full}
-use Rattle.book_laws.proofs.Moves.{entered_by, entered-there, entered_refused, entering-there, entering-room, entering_full}
+use Rattle.book_laws.proofs.Moves.{entered_by, entered-there, entered_refused, entering-there, entering_room, entering_full}
 use Rattle.list_book.specs.Listed.{listed}
 use Rattle.list_book.specs.ListBooks.{list_meaning, row_ties}
 use Rattle.list_book.proofs.Moves.{Stand, ties_stand, count, tie_in, none_lent, some_lent, same_front, grew_room, grew_front, full_lent, row_same, row_grew, left_there, left_refused, written, placed, placed_stand}
@@ -68,7 +68,7 @@ returns-in-Placed c =
     let grown = c.in-Placed.ensures.1 in
     let e = grew_front b t _ ws lent c.add.auto.row grown in
     let none = none_lent b t _ ws lent c.add.auto.row c.in-Placed.ensures.0 in
-    let ok = entering-room m t w (omega (arith, count b, grew_room b t _ ws lent c.add.auto.row grown)) in
+    let ok = entering_room m t w (omega (arith, count b, grew_room b t _ ws lent c.add.auto.row grown)) in
     record {
       answer = sym ok;
       after = entered_by m t _ ok (λ x y z. ap (λ ys. listed ys x y z) e ∙ placed (counts_kept b.marks) (row_ties b) t x y z);

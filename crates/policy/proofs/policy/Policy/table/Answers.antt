@@ -1,7 +1,7 @@
 use Rattle.policy.specs.Policies.{entries_of}
 use Rattle.policy.proofs.Making.{front}
-use Rattle.policy.proofs.Places.{closed-is-free, anchored-is}
-use Rattle.policy.proofs.Tables.{stands-whole}
+use Rattle.policy.proofs.Places.{closed_is_free, anchored_is}
+use Rattle.policy.proofs.Tables.{stands_whole}
 use Rattle.policy.proofs.Whole.{written, same_formula}
 use Rattle.policy.proofs.policy.Policy.table.Goals as goal
 
@@ -11,7 +11,7 @@ returns c =
     let w = written (entries_of p) p.whole in
     record {
       value = front p.len p.table;
-      known = (w.0, w.1, w.2, stands-whole w.0 (entries_of p) w.1, λ g e. same_formula (entries_of p) g w.0 e w.1);
-      closed = closed-is-free;
-      anchored = anchored-is;
+      known = (w.0, w.1, w.2, stands_whole w.0 (entries_of p) w.1, λ g e. same_formula (entries_of p) g w.0 e w.1);
+      closed = closed_is_free;
+      anchored = anchored_is;
     }
