@@ -1,13 +1,12 @@
 // The board book as a book.
 ghost use Rattle.std.specs.Prelude.{◌≡◌, true, false};
-ghost use Rattle.book.specs.Calls.{entering, entered, striking, struck, marking, marked_as};
-ghost use Rattle.board_book.specs.Boards.{board_meaning, words_held};
 ghost use Rattle.std.proofs.Common.{arith};
 ghost use Rattle.std.proofs.lemmas.Bool.Decides.{nat_tests};
 ghost use Rattle.book.specs.Meaning.{ties_of};
-ghost use Rattle.marks.specs.MarkBoards.{counts_kept};
+ghost use Rattle.book.specs.Calls.{entering, entered, striking, struck, marking, marked_as};
 ghost use Rattle.book_laws.proofs.Counting.{count3_le};
-ghost use Rattle.board_book.specs.Boards;
+ghost use Rattle.marks.specs.MarkBoards.{counts_kept};
+ghost use Rattle.board_book.specs.Boards.{board_meaning, words_held};
 
 use crate::board::BoardBook;
 use bits::rows::is_set;
@@ -20,12 +19,18 @@ impl Reading for BoardBook {
     ghost meaning = { board_meaning };
 
     ghost sound = { unfold ties_of in
-        λ b.
-        record {
-          limits = record { some_name = b.marks.named.0; few_names = b.marks.named.1; few_labels = b.marks.few.0; few_marks = b.marks.few.1 };
+        λ b. record {
+          limits = record {
+            some_name = b.marks.named.0;
+            few_names = b.marks.named.1;
+            few_labels = b.marks.few.0;
+            few_marks = b.marks.few.1;
+          };
           tied_within = λ l f t e. Prim.grind (arith, nat_tests, e);
           marked_within = λ k n e. Prim.grind (arith, nat_tests, e);
-          fits = count3_le (counts_kept b.marks).labels (counts_kept b.marks).names (Boards.board_meaning b).tied;
+          fits =
+              let counts = counts_kept b.marks in
+              count3_le counts.labels counts.names (board_meaning b).tied;
         } };
 
     fn counts(&self) -> Counts {

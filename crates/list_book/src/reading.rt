@@ -1,10 +1,10 @@
 // Reading a list book.
 ghost use Rattle.std.specs.Prelude.{◌≡◌, ℕ, true, false, MatchOption};
-ghost use Rattle.book.specs.Ties.{same_tie, toward};
-ghost use Rattle.list_book.specs.ListBooks.{list_meaning, row_ties};
 ghost use Rattle.std.proofs.Common.{arith};
 ghost use Rattle.std.proofs.lemmas.Bool.Decides.{nat_tests};
 ghost use Rattle.book.specs.Meaning.{ties_of};
+ghost use Rattle.book.specs.Ties.{same_tie, toward};
+ghost use Rattle.list_book.specs.ListBooks.{list_meaning, row_ties};
 
 use crate::ListBook;
 use book::counts::Counts;
@@ -41,11 +41,21 @@ impl Reading for ListBook {
     ghost meaning = { list_meaning };
 
     ghost sound = { unfold ties_of in
-        λ b.
-        record {
-          limits = record { some_name = b.marks.named.0; few_names = b.marks.named.1; few_labels = b.marks.few.0; few_marks = b.marks.few.1 };
-          tied_within = λ l f t e. let h = b.inside l f t in (Prim.grind (arith, nat_tests, e, h), Prim.grind (arith, nat_tests, e, h), Prim.grind (arith, nat_tests, e, h));
-          marked_within = λ k n e. (Prim.grind (arith, nat_tests, e), Prim.grind (arith, nat_tests, e));
+        λ b. record {
+          limits = record {
+            some_name = b.marks.named.0;
+            few_names = b.marks.named.1;
+            few_labels = b.marks.few.0;
+            few_marks = b.marks.few.1;
+          };
+          tied_within = λ l f t e.
+              let within = b.inside l f t in (
+                Prim.grind (arith, nat_tests, e, within),
+                Prim.grind (arith, nat_tests, e, within),
+                Prim.grind (arith, nat_tests, e, within),
+              );
+          marked_within = λ k n e.
+              (Prim.grind (arith, nat_tests, e), Prim.grind (arith, nat_tests, e));
           fits = omega (arith, b.counted, b.front);
         } };
 

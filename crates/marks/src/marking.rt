@@ -1,5 +1,5 @@
 // The mark facts of a book.
-ghost use Rattle.std.specs.Prelude.{◌≡◌, false, if◌then◌else◌, Ok, Err};
+ghost use Rattle.std.specs.Prelude.{◌≡◌, false, if◌then◌else◌};
 ghost use Rattle.book.specs.Calls.{mark_within, ranged};
 ghost use Rattle.book.specs.Meaning.{at2, count2};
 ghost use Rattle.book.specs.Limits.{made_counts};
