@@ -1,5 +1,5 @@
 ghost use Rattle.std.specs.Prelude.{◌≡◌, Decides, MatchOption};
-ghost use Rattle.text.specs.Word.{«plain_byte», plain, cause_of, cause_number, Plain, Fine, Wrong};
+ghost use Rattle.text.specs.Word.{plain_byte, plain, cause_of, cause_number, Plain, Fine, Wrong};
 
 // What is wrong with a word by itself.
 #[derive(Clone, Copy, Debug, PartialEq, Eq)]

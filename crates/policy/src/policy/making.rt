@@ -6,7 +6,7 @@ ghost use Rattle.policy.specs.Table.{Stands};
 ghost use Rattle.policy.specs.Free.{free, First, ClosedIsFree};
 ghost use Rattle.policy.specs.Anchor.{AnchoredIsAstrayNowhere};
 ghost use Rattle.policy.specs.Proper.{Proper};
-ghost use Rattle.policy.specs.Policies.{entries_of, Means, Makes, Forbidden, «built_in»};
+ghost use Rattle.policy.specs.Policies.{entries_of, Means, Makes, Forbidden, built_in};
 
 use super::Policy;
 use crate::entry::Entry;
