@@ -122,9 +122,9 @@ new_enough c n =
 pub cleared : (v : Vec ℕ Global) (rs ws : List ℕ) → rs ≡ vec_items v → ws ≡ replicate (length rs) 0 → vec_items (with_items v ws) ≡ replicate (length rs) 0
 cleared v rs ws lent filled = with_items_is v ws (ap length filled ∙ length-replicate (length rs) 0 ∙ ap length lent ∙ sym v.ok.0) ∙ filled
 
-pub new_means : (m : MarkBoard) (items : List ℕ) (k n : ℕ) (c : Counts) → items ≡ replicate k 0 → counts_kept m ≡ fitted c n → marks_kept m ≡ (λ _ _. false)
-    → ◌≡◌ {A = Meaning} (record { counts = counts_kept m; capacity = possible (counts_kept m); tied = ties_in (counts_kept m) items; marked = marks_kept m }) (board_opened c n)
-new_means m items k n c clear counts none =
+pub new_means : (m : MarkBoard) (bits : List ℕ) (k n : ℕ) (c : Counts) → bits ≡ replicate k 0 → counts_kept m ≡ fitted c n → marks_kept m ≡ (λ _ _. false)
+    → ◌≡◌ {A = Meaning} (record { counts = counts_kept m; capacity = possible (counts_kept m); tied = ties_in (counts_kept m) bits; marked = marks_kept m }) (board_opened c n)
+new_means m bits k n c clear counts none =
     ap (λ p. record { counts = counts_kept m; capacity = possible (counts_kept m); tied = p; marked = marks_kept m }) (fun_ext3 (λ x y z. ap (λ us. ties_in (counts_kept m) us x y z) clear ∙ ties.untied (counts_kept m) k x y z))
     ∙ ap (λ q. record { counts = counts_kept m; capacity = possible (counts_kept m); tied = λ _ _ _. false; marked = q }) none
     ∙ ap (λ cs. opened cs (possible cs)) counts
