@@ -6,8 +6,8 @@ usage: python3 tools/respell.py            at the top of the repository, once, a
 
 Renamed are the names that specs/ and proofs/ declare: definitions, lemmas, fields of records and cases of data.
 A name from src/, a goal that the check makes, a string and a comment keep their spelling. In a lemma's name a dash
-stays between two words that are each the name of a definition of specs/, as in `entered-there`; elsewhere it
-becomes `_`.
+stays between two words that are each the name of a definition of specs/ or one of STD_WORDS, functions of the
+library, as in `entered-there` and `entries-length`; elsewhere it becomes `_`.
 """
 
 import glob
