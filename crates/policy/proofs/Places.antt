@@ -105,7 +105,7 @@ letter_back L.B = refl
 alike_same : (v u : Letter) → alike v u ≡ true → v ≡ u
 alike_same v u e = sym (letter_back v) ∙ ap letter_of (eqb-true (number v) (number u) e) ∙ letter_back u
 
-alike_self : (u : Letter) → alike u u ≡ true
+pub alike_self : (u : Letter) → alike u u ≡ true
 alike_self L.Requester = refl
 alike_self L.Resource = refl
 alike_self L.A = refl
@@ -127,7 +127,7 @@ not_and : (a b : Bool) → (not a && b) ≡ true → (a ≡ false) × (b ≡ tru
 not_and true b e = absurd (false≢true e)
 not_and false b e = (refl, e)
 
-not_and_from : (a b : Bool) → a ≡ false → b ≡ true → (not a && b) ≡ true
+pub not_and_from : (a b : Bool) → a ≡ false → b ≡ true → (not a && b) ≡ true
 not_and_from true b e h = absurd (true≢false e)
 not_and_from false b e h = h
 

@@ -1,39 +1,23 @@
 -- Proofs of the laws of satisfaction.
-use Rattle.std.proofs.Common.{◌≡◌, ℕ, ◌<◌, Bool, true, false, not, ◌&&◌, ◌||◌, ◌⊎◌, Ok, Err, Result, refl, sym, ap, ◌∙◌, inl, inr, ⊎_elim}
-use Rattle.std.proofs.lemmas.Bool.{cases_Bool}
+use Rattle.std.proofs.Common.{◌≡◌, ℕ, true, false, Ok, Err, refl, sym, ◌∙◌, inl, inr, ⊎_elim}
+use Rattle.std.proofs.lemmas.Bool.{or_left, or_right}
 use Rattle.book.specs.Meaning.{Meaning}
-use Rattle.book.specs.declared.refusal.RangeRefusal.{RangeRefusal}
 use Rattle.book.specs.declared.refusal.RangeRefusal.TheVariants.{OutOfRange}
 use Rattle.policy_words.specs.Tree.{Formula}
 use Rattle.policy_words.specs.Tree.Formula.{is, same, has, neg, both, either, at_letter, at_name, bind, some}
 use Rattle.policy_words.specs.declared.word.Letter.{Letter}
 use Rattle.policy_words.specs.declared.word.Letter.TheVariants as L
 use Rattle.policy.specs.Letters.{alike, given}
-use Rattle.policy.specs.Free.{free, Closed}
+use Rattle.policy.specs.Free.{free}
 use Rattle.policy.specs.Anchor.{Anchored}
 use Rattle.policy.specs.Anchor.Anchored.{at_requester, at_resource, not as a_not, and as a_and, or as a_or}
-use Rattle.policy.specs.declared.policy.Policy.{Policy}
-use Rattle.policy.proofs.Places.{closed_is_free}
-use Rattle.semantics.specs.Satisfaction.{Valuation, value, assign, Somewhere, Holds}
-use Rattle.semantics.specs.declared.verdict.Verdict.{Verdict}
+use Rattle.policy.proofs.Places.{alike_self, not_and_from, closed_is_free}
+use Rattle.semantics.specs.Satisfaction.{Valuation, value, assign, Holds}
 use Rattle.semantics.specs.declared.verdict.Verdict.TheVariants.{Open, Closed as Shut}
-use Rattle.semantics.specs.Verdicts.{Asks, Opens, Judged, FreeLettersDecide, JudgedAnywhere, OneJudgement}
-
-own_letter : (v : Letter) → alike v v ≡ true
-own_letter L.Requester = refl
-own_letter L.Resource = refl
-own_letter L.A = refl
-own_letter L.B = refl
-
-or_left : (x y : Bool) → x ≡ true → (x || y) ≡ true
-or_left x y e = ap (λ b. b || y) e
-
-or_right : (x y : Bool) → y ≡ true → (x || y) ≡ true
-or_right true y e = refl
-or_right false y e = e
+use Rattle.semantics.specs.Verdicts.{Asks, FreeLettersDecide, JudgedAnywhere, OneJudgement}
 
 -- where two valuations agree on each letter but one, they agree once that one is set in both
-assigned : (g h : Valuation) (s : ℕ) (u v : Letter) → (not (alike v u) ≡ true → value g v ≡ value h v) → value (assign u s g) v ≡ value (assign u s h) v
+assigned : (g h : Valuation) (s : ℕ) (u v : Letter) → (alike v u ≡ false → value g v ≡ value h v) → value (assign u s g) v ≡ value (assign u s h) v
 assigned g h s L.Requester L.Requester k = refl
 assigned g h s L.Requester L.Resource k = k refl
 assigned g h s L.Requester L.A k = k refl
@@ -51,13 +35,9 @@ assigned g h s L.B L.Resource k = k refl
 assigned g h s L.B L.A k = k refl
 assigned g h s L.B L.B k = refl
 
-both_true : (x y : Bool) → x ≡ true → y ≡ true → (x && y) ≡ true
-both_true true y e d = d
-both_true false y e d = e
-
 pub free_letters_decide : FreeLettersDecide
 free_letters_decide m (is n) g h agree s p = p
-free_letters_decide m (same v) g h agree s p = p ∙ agree v (own_letter v)
+free_letters_decide m (same v) g h agree s p = p ∙ agree v (alike_self v)
 free_letters_decide m (has k) g h agree s p = p
 free_letters_decide m (neg f) g h agree s p = λ q. p (free_letters_decide m f h g (λ v e. sym (agree v e)) s q)
 free_letters_decide m (both f k) g h agree s p = (
@@ -70,10 +50,10 @@ free_letters_decide m (either f k) g h agree s p =
     (λ r. inr (free_letters_decide m k g h (λ v e. agree v (or_right (free v f) (free v k) e)) s r))
     p
 free_letters_decide m (at_letter u f) g h agree s (y, lt, (e, p)) =
-    (y, lt, (e ∙ agree u (or_left (alike u u) (free u f) (own_letter u)), free_letters_decide m f g h (λ v d. agree v (or_right (alike v u) (free v f) d)) y p))
+    (y, lt, (e ∙ agree u (or_left (alike u u) (free u f) (alike_self u)), free_letters_decide m f g h (λ v d. agree v (or_right (alike v u) (free v f) d)) y p))
 free_letters_decide m (at_name n f) g h agree s (y, lt, (e, p)) = (y, lt, (e, free_letters_decide m f g h agree y p))
 free_letters_decide m (bind u f) g h agree s p =
-    free_letters_decide m f (assign u s g) (assign u s h) (λ v e. assigned g h s u v (λ d. agree v (both_true (not (alike v u)) (free v f) d e))) s p
+    free_letters_decide m f (assign u s g) (assign u s h) (λ v e. assigned g h s u v (λ d. agree v (not_and_from (alike v u) (free v f) d e))) s p
 free_letters_decide m (some t f) g h agree s (y, lt, (j, p)) = (y, lt, (j, free_letters_decide m f g h agree y p))
 
 -- an anchored formula holds at each name where it holds at one
