@@ -2,7 +2,8 @@
 use Rattle.std.specs.Prelude.{◌≡◌, ℕ, ◌<◌, ◌≤◌, Bool, true, false, cond, ◌&&◌, ◌||◌, is_ok, Some, None, Ok, Err, Option, Result, nat_le, nat_lt}
 use Rattle.book.specs.declared.counts.Counts.{Counts}
 use Rattle.book.specs.declared.tie.Tie.{Tie}
-use Rattle.book.specs.declared.tie.Direction.{Direction}
+use Rattle.book.specs.declared.tie.Neighbours.{Neighbours}
+use Rattle.book.specs.declared.mark.MarkFact.{MarkFact}
 use Rattle.book.specs.declared.refusal.RangeRefusal.{RangeRefusal}
 use Rattle.book.specs.declared.refusal.RangeRefusal.TheVariants.{OutOfRange}
 use Rattle.book.specs.declared.refusal.EnterRefusal.{EnterRefusal}
@@ -15,12 +16,12 @@ abbrev pub tie_within : Counts → Tie → Bool
 tie_within c t = tie_range c t.label t.from t.to
 
 -- both numbers of the mark fact are below their counts
-abbrev pub mark_within : Counts → ℕ → ℕ → Bool
-mark_within c k n = mark_range c k n
+abbrev pub mark_within : Counts → MarkFact → Bool
+mark_within c f = mark_range c f.mark f.name
 
 -- the label and the name are below their counts, and `at` is not above the names
-abbrev pub next_within : Counts → ℕ → ℕ → ℕ → Bool
-next_within c l s at = nat_lt l c.labels && nat_lt s c.names && nat_le at c.names
+abbrev pub next_within : Counts → Neighbours → ℕ → Bool
+next_within c of at = nat_lt of.label c.labels && nat_lt of.name c.names && nat_le at c.names
 
 -- 1 unless the numbers are in range
 abbrev pub ranged : Bool → Result (Unit {0}) RangeRefusal
@@ -35,8 +36,8 @@ abbrev pub TieTold : Meaning → Tie → Result Bool RangeRefusal → Type 0
 TieTold m t r = r ≡ cond (tie_within m.counts t) (Ok (has m t)) (Err OutOfRange)
 
 -- what the question whether a name has a mark is answered
-abbrev pub MarkTold : Meaning → ℕ → ℕ → Result Bool RangeRefusal → Type 0
-MarkTold m k n r = r ≡ cond (mark_within m.counts k n) (Ok (m.marked k n)) (Err OutOfRange)
+abbrev pub MarkTold : Meaning → MarkFact → Result Bool RangeRefusal → Type 0
+MarkTold m f r = r ≡ cond (mark_within m.counts f) (Ok (m.marked f.mark f.name)) (Err OutOfRange)
 
 -- what entering a tie answers: 1 out of range, 2 where it is absent and the book is full
 abbrev pub entering : Meaning → Tie → Result (Unit {0}) EnterRefusal
@@ -55,19 +56,19 @@ abbrev pub struck : Meaning → Tie → Meaning
 struck m t = cond (tie_within m.counts t) (with_ties m (at3 m.tied t.label t.from t.to false)) m
 
 -- what setting or lifting a mark answers
-abbrev pub marking : Meaning → ℕ → ℕ → Result (Unit {0}) RangeRefusal
-marking m k n = ranged (mark_within m.counts k n)
+abbrev pub marking : Meaning → MarkFact → Result (Unit {0}) RangeRefusal
+marking m f = ranged (mark_within m.counts f)
 
 -- the book after it: with the mark fact (v true) or without it (v false), if it is in range
-abbrev pub marked_as : Meaning → ℕ → ℕ → Bool → Meaning
-marked_as m k n v = cond (mark_within m.counts k n) (with_marks m (at2 m.marked k n v)) m
+abbrev pub marked_as : Meaning → MarkFact → Bool → Meaning
+marked_as m f v = cond (mark_within m.counts f) (with_marks m (at2 m.marked f.mark f.name v)) m
 
--- a tie of the label joins s to y: forward from s to y, backward from y to s
-abbrev pub joins : Meaning → ℕ → Direction → ℕ → ℕ → Bool
-joins m l d s y = has m (toward l d s y)
+-- y is one of the neighbours: the tie that joins them is in the book
+abbrev pub joins : Meaning → Neighbours → ℕ → Bool
+joins m of y = has m (toward of y)
 
--- what next answers: the lowest name not below `at` that s is joined to, or none
-abbrev pub Next : Meaning → ℕ → Direction → ℕ → ℕ → Result (Option ℕ) RangeRefusal → Type 0
-Next m l d s at (Ok None) = (next_within m.counts l s at ≡ true) × ((k : ℕ) → at ≤ k → joins m l d s k ≡ false)
-Next m l d s at (Ok (Some y)) = (next_within m.counts l s at ≡ true) × (at ≤ y) × (joins m l d s y ≡ true) × ((k : ℕ) → at ≤ k → k < y → joins m l d s k ≡ false)
-Next m l d s at (Err OutOfRange) = next_within m.counts l s at ≡ false
+-- what next answers: the lowest of the neighbours that is not below `at`, or none
+abbrev pub Next : Meaning → Neighbours → ℕ → Result (Option ℕ) RangeRefusal → Type 0
+Next m of at (Ok None) = (next_within m.counts of at ≡ true) × ((k : ℕ) → at ≤ k → joins m of k ≡ false)
+Next m of at (Ok (Some y)) = (next_within m.counts of at ≡ true) × (at ≤ y) × (joins m of y ≡ true) × ((k : ℕ) → at ≤ k → k < y → joins m of k ≡ false)
+Next m of at (Err OutOfRange) = next_within m.counts of at ≡ false

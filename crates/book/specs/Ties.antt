@@ -2,6 +2,7 @@
 use Rattle.std.specs.Prelude.{ℕ, Bool, ◌&&◌, ◌==◌}
 use Rattle.book.specs.declared.tie.Tie.{Tie}
 use Rattle.book.specs.declared.tie.Direction.{Direction}
+use Rattle.book.specs.declared.tie.Neighbours.{Neighbours}
 use Rattle.book.specs.declared.tie.Direction.TheVariants.{Forward, Backward}
 
 -- x is the tie of the label l from f to t
@@ -12,7 +13,11 @@ is_tie x l f t = x.label == l && x.from == f && x.to == t
 abbrev pub same_tie : Tie → Tie → Bool
 same_tie x y = is_tie x y.label y.from y.to
 
--- the tie of the label l that joins s to y: from s forward, to s backward
-abbrev pub toward : ℕ → Direction → ℕ → ℕ → Tie
-toward l Forward s y = record { label = l; from = s; to = y }
-toward l Backward s y = record { label = l; from = y; to = s }
+-- the tie of the label l that joins s to y along a direction: from s forward, to s backward
+abbrev pub joining : ℕ → Direction → ℕ → ℕ → Tie
+joining l Forward s y = record { label = l; from = s; to = y }
+joining l Backward s y = record { label = l; from = y; to = s }
+
+-- the tie that makes y one of the neighbours
+abbrev pub toward : Neighbours → ℕ → Tie
+toward of y = joining of.label of.direction of.name y

@@ -4,8 +4,9 @@ ghost use Rattle.book.specs.Meaning.{Meaning, Sound, ties_of, marks_of};
 ghost use Rattle.book.specs.Calls.{TieTold, MarkTold, entering, entered, striking, struck, marking, marked_as, Next};
 
 use crate::counts::Counts;
+use crate::mark::MarkFact;
 use crate::refusal::{EnterRefusal, RangeRefusal};
-use crate::tie::{Direction, Tie};
+use crate::tie::{Neighbours, Tie};
 
 // A book that can be asked, and is not altered by it.
 pub trait Reading {
@@ -29,12 +30,12 @@ pub trait Reading {
         ensures { TieTold (meaning self.now) tie result };
 
     // Whether the name has the mark.
-    fn has_mark(&self, mark: u8, name: u8) -> Result<bool, RangeRefusal>
-        ensures { MarkTold (meaning self.now) mark name result };
+    fn has_mark(&self, fact: MarkFact) -> Result<bool, RangeRefusal>
+        ensures { MarkTold (meaning self.now) fact result };
 
-    // The lowest name not below `at` that the name is tied to (forward) or that is tied to it (backward).
-    fn next(&self, label: u8, dir: Direction, name: u8, at: u8) -> Result<Option<u8>, RangeRefusal>
-        ensures { Next (meaning self.now) label dir name at result };
+    // The lowest of the neighbours that is not below `at`.
+    fn next(&self, of: Neighbours, at: u8) -> Result<Option<u8>, RangeRefusal>
+        ensures { Next (meaning self.now) of at result };
 
     ghost sound: { (b : Self) → Sound (meaning b) };
 }
@@ -46,29 +47,29 @@ pub trait Keeping: Reading {
 
     // How many ties the book can hold.
     fn capacity(&self) -> usize
-        ensures { result ≡ (Self.Reading.meaning self.now).capacity };
+        ensures { result ≡ (Self.meaning self.now).capacity };
 
     // Puts the tie in.
     fn enter(&mut self, tie: Tie) -> Result<(), EnterRefusal>
-        ensures answer { result ≡ entering (Self.Reading.meaning self.old) tie }
-        ensures after { Self.Reading.meaning self.new ≡ entered (Self.Reading.meaning self.old) tie }
+        ensures answer { result ≡ entering (Self.meaning self.old) tie }
+        ensures after { Self.meaning self.new ≡ entered (Self.meaning self.old) tie }
         ensures held { holds self.old → holds self.new };
 
     // Takes the tie out.
     fn strike(&mut self, tie: Tie) -> Result<(), RangeRefusal>
-        ensures answer { result ≡ striking (Self.Reading.meaning self.old) tie }
-        ensures after { Self.Reading.meaning self.new ≡ struck (Self.Reading.meaning self.old) tie }
+        ensures answer { result ≡ striking (Self.meaning self.old) tie }
+        ensures after { Self.meaning self.new ≡ struck (Self.meaning self.old) tie }
         ensures held { holds self.old → holds self.new };
 
     // Gives the name the mark.
-    fn set_mark(&mut self, mark: u8, name: u8) -> Result<(), RangeRefusal>
-        ensures answer { result ≡ marking (Self.Reading.meaning self.old) mark name }
-        ensures after { Self.Reading.meaning self.new ≡ marked_as (Self.Reading.meaning self.old) mark name true }
+    fn set_mark(&mut self, fact: MarkFact) -> Result<(), RangeRefusal>
+        ensures answer { result ≡ marking (Self.meaning self.old) fact }
+        ensures after { Self.meaning self.new ≡ marked_as (Self.meaning self.old) fact true }
         ensures held { holds self.old → holds self.new };
 
     // Takes the mark from the name.
-    fn lift_mark(&mut self, mark: u8, name: u8) -> Result<(), RangeRefusal>
-        ensures answer { result ≡ marking (Self.Reading.meaning self.old) mark name }
-        ensures after { Self.Reading.meaning self.new ≡ marked_as (Self.Reading.meaning self.old) mark name false }
+    fn lift_mark(&mut self, fact: MarkFact) -> Result<(), RangeRefusal>
+        ensures answer { result ≡ marking (Self.meaning self.old) fact }
+        ensures after { Self.meaning self.new ≡ marked_as (Self.meaning self.old) fact false }
         ensures held { holds self.old → holds self.new };
 }

@@ -4,6 +4,7 @@
 
 pub mod counts;
 pub mod faces;
+pub mod mark;
 pub mod range;
 pub mod refusal;
 pub mod tie;

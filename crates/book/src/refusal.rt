@@ -1,7 +1,9 @@
 // Why a call on a book is refused.
 ghost use Rattle.std.specs.Prelude.{◌≡◌};
 ghost use Rattle.book.specs.Refusals.{range_number, enter_number};
-ghost use Rattle.book.specs.declared.refusal.EnterRefusal.TheVariants.{Range};
+ghost use Rattle.book.specs.declared.refusal.EnterRefusal.TheVariants.{Range, Full as BookFull};
+
+use rows::Full;
 
 // The refusal of every call that is told a number.
 #[derive(Clone, Copy, Debug, PartialEq, Eq)]
@@ -39,6 +41,15 @@ impl EnterRefusal {
             EnterRefusal::Range(range) => range.number(),
             EnterRefusal::Full => 2,
         }
+    }
+}
+
+// No place is left in the row of a book that is full.
+impl From<Full> for EnterRefusal {
+    ghost from_gives = { λ e r. r ≡ BookFull };
+
+    fn from(_full: Full) -> EnterRefusal {
+        EnterRefusal::Full
     }
 }
 

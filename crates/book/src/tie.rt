@@ -1,31 +1,13 @@
-// Ties.
+// Ties, and the names that they join to a name.
 ghost use Rattle.std.specs.Prelude.{◌≡◌};
-ghost use Rattle.book.specs.Ties.{same_tie, toward};
-ghost use Rattle.std.proofs.Common.{rules};
-
-use rows::Sameness;
+ghost use Rattle.book.specs.Ties.{toward};
 
 // A tie with a label from a name to a name, perhaps the same one; all three by number.
-#[derive(Clone, Copy, Debug, PartialEq, Eq)]
+#[derive(Clone, Copy, Debug, Default, PartialEq, Eq)]
 pub struct Tie {
     pub label: u8,
     pub from: u8,
     pub to: u8,
-}
-
-// Ties are the same when their label, their from-name and their to-name are.
-impl Sameness for Tie {
-    ghost same = { same_tie };
-
-    ghost reflexive = { Prim.search rules };
-
-    ghost symmetric = { Prim.search rules };
-
-    ghost transitive = { Prim.search rules };
-
-    fn is_same(&self, other: &Tie) -> bool {
-        self.label == other.label && self.from == other.from && self.to == other.to
-    }
 }
 
 // Along which way of a tie a name is sought.
@@ -37,12 +19,25 @@ pub enum Direction {
     Backward,
 }
 
-impl Direction {
-    // The tie that joins the name to the other one: from the name, or to it.
-    pub fn tie(self, label: u8, name: u8, other: u8) -> Tie
-        ensures { result ≡ toward label self name other }
+// The neighbours of a name: the names that ties of a label join it to along a direction.
+#[derive(Clone, Copy, Debug, PartialEq, Eq)]
+pub struct Neighbours {
+    pub label: u8,
+    pub direction: Direction,
+    pub name: u8,
+}
+
+impl Neighbours {
+    // The tie that makes the other name a neighbour: from the name to it, or from it to the name.
+    pub fn tie(self, other: u8) -> Tie
+        ensures { result ≡ toward self other }
     {
-        match self {
+        let Neighbours {
+            label,
+            direction,
+            name,
+        } = self;
+        match direction {
             Direction::Forward => Tie {
                 label,
                 from: name,

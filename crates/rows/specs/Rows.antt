@@ -1,7 +1,6 @@
 -- What finding a thing in a row comes to, and adding it. `same` tells whether two things are the same.
-use Rattle.std.specs.Prelude.{◌≡◌, ℕ, ◌+◌, ◌<◌, ◌≤◌, Bool, true, false, List, [], ◌∷◌, ◌++◌, length, take, drop, Some, None, Option, slice_index_or}
-use Rattle.rows.specs.declared.Added.{Added}
-use Rattle.rows.specs.declared.Added.TheVariants.{Present, Placed, Full}
+use Rattle.std.specs.Prelude.{◌≡◌, ℕ, ◌+◌, ◌<◌, ◌≤◌, Bool, true, false, List, [], ◌∷◌, ◌++◌, length, take, drop, Some, None, Ok, Err, Option, Result, slice_index_or}
+use Rattle.rows.specs.declared.Full.{Full}
 
 -- no thing among the first n of xs is the same as x
 abbrev pub Absent : {X : Type 0} → (X → X → Bool) → List X → ℕ → X → Type 0
@@ -23,8 +22,8 @@ pub record Grew {X : Type 0} (xs ys : List X) (used : ℕ) (x : X) : Type 0 wher
   pub rest : drop (used + 1) ys ≡ drop (used + 1) xs
 
 -- what adding x after the first `used` things of xs answers, and the row ys that it leaves: x stands
--- among them already and nothing is altered, x was placed, or x is absent and no place is left
-abbrev pub Adds : {X : Type 0} → (X → X → Bool) → List X → List X → ℕ → X → Added → Type 0
-Adds same xs ys used x (Present i) = FirstAt same (take used xs) x i × (ys ≡ xs)
-Adds same xs ys used x Placed = Absent same (take used xs) (length (take used xs)) x × Grew xs ys used x
-Adds same xs ys used x Full = Absent same (take used xs) (length (take used xs)) x × (length xs ≤ used) × (ys ≡ xs)
+-- among them already, at i, and nothing is altered; x was put; or x is absent and no place is left
+abbrev pub Adds : {X : Type 0} → (X → X → Bool) → List X → List X → ℕ → X → Result (Option ℕ) Full → Type 0
+Adds same xs ys used x (Ok (Some i)) = FirstAt same (take used xs) x i × (ys ≡ xs)
+Adds same xs ys used x (Ok None) = Absent same (take used xs) (length (take used xs)) x × Grew xs ys used x
+Adds same xs ys used x (Err e) = Absent same (take used xs) (length (take used xs)) x × (length xs ≤ used) × (ys ≡ xs)
