@@ -1,11 +1,10 @@
 -- How the words of a board book move.
-use Rattle.std.proofs.Common.{◌≡◌, ℕ, ◌+◌, ◌-◌, ◌*◌, ◌<◌, ◌≤◌, Bool, true, false, cond, not, eqb, List, length, replicate, is_ok, Ok, vec_items, Vec, sym, refl, ap, ◌∙◌, subst, ⊎_elim, arith}
-use mathlib.Core.Bool.{beq}
+use Rattle.std.proofs.Common.{◌≡◌, ℕ, ◌+◌, ◌*◌, ◌<◌, ◌≤◌, Bool, true, false, cond, eqb, List, length, replicate, is_ok, Ok, vec_items, sym, refl, ap, ◌∙◌, subst, ⊎_elim, arith}
+use Rattle.std.specs.Int.{from_bool}
 use Rattle.std.specs.Vec.{with_items}
-use Rattle.std.proofs.lemmas.List.{with_items_is, length-replicate}
+use Rattle.std.proofs.lemmas.List.{with_items_is}
 use Rattle.std.proofs.lemmas.Bool.{cases_Bool}
 use Rattle.std.proofs.lemmas.Bool.Decides.{nat_tests}
-use Rattle.std.specs.declared.alloc.Global.{Global}
 use Rattle.book.specs.declared.counts.Counts.{Counts}
 use Rattle.marks.specs.declared.mark_board.MarkBoard.{MarkBoard}
 use Rattle.book.specs.declared.tie.Tie.{Tie}
@@ -13,11 +12,10 @@ use Rattle.bits.specs.Bits.{bit_set}
 use Rattle.book.specs.Calls.{tie_within, has, entering, entered}
 use Rattle.book.specs.Limits.{made_counts, least}
 use Rattle.marks.specs.MarkBoards.{counts_kept, marks_kept}
-use Rattle.book.specs.Meaning.{Meaning, ties_of, at3, opened, with_ties}
+use Rattle.book.specs.Meaning.{Meaning, ties_of, count3, at3, opened, with_ties}
 use Rattle.book_laws.proofs.Counting.{count3_le, count3_put}
-use Rattle.marks.proofs.MarkMoves.{differs, agrees}
 use Rattle.book_laws.proofs.Moves.{fun_ext3, entering-there, entering_room, entered_by}
-use Rattle.board_book.specs.TieBits.{place, possible, ties_in, CountedTies, Clear}
+use Rattle.board_book.specs.TieBits.{place, possible, ties_in, Clear}
 use Rattle.board_book.specs.Boards.{board_meaning}
 use Rattle.board_book.specs.Making.{fitting, fitted, needed, board_opened}
 use Rattle.board_book.specs.declared.board.BoardBook.{BoardBook}
@@ -27,7 +25,7 @@ use Rattle.board_book.proofs.TieMoves as ties
 pub few_ties : (b : BoardBook) → b.used ≤ 65536
 few_ties b =
     let c = counts_kept b.marks in
-    omega (arith, b.counted, count3_le c.labels c.names (ties_in c (vec_items b.words)), ties.few_possible c b.marks.few.0 b.marks.named.1)
+    omega (arith, b.counted, count3_le c.labels c.names (ties_in c (vec_items b.words)), ties.few_possible c b.marks.within.few_labels b.marks.within.few_names)
 
 -- a tie in range is never refused
 pub never_full : (b : BoardBook) (t : Tie) → tie_within (counts_kept b.marks) t ≡ true → entering (board_meaning b) t ≡ Ok tt
@@ -49,19 +47,16 @@ pub entered_always : (b : BoardBook) (t : Tie) (m : Meaning) → tie_within (cou
     → m ≡ with_ties (board_meaning b) (at3 (board_meaning b).tied t.label t.from t.to true) → m ≡ entered (board_meaning b) t
 entered_always b t m within is = is ∙ entered_by (board_meaning b) t (at3 (board_meaning b).tied t.label t.from t.to true) (never_full b t within) (λ _ _ _. refl)
 
--- what words tell in which the bit of a tie is now v, and was not
-pub record Turned (b : BoardBook) (t : Tie) (v : Bool) (after : List ℕ) : Type 0 where
+-- what the words tell once the bit of a tie, which was `was`, is v
+pub record Replaced (b : BoardBook) (t : Tie) (was v : Bool) (after : List ℕ) : Type 0 where
   pub ties : ties_in (counts_kept b.marks) after ≡ at3 (board_meaning b).tied t.label t.from t.to v
   pub clear : Clear (counts_kept b.marks) after
-  pub more : v ≡ true → CountedTies (counts_kept b.marks) after (b.used + 1)
-  pub less : v ≡ false → (0 < b.used) × CountedTies (counts_kept b.marks) after (b.used - 1)
+  pub count : count3 (counts_kept b.marks).labels (counts_kept b.marks).names (ties_in (counts_kept b.marks) after) + from_bool was ≡ b.used + from_bool v
 
--- the words with the bit of a tie turned over, since it was not as it should be
-module _ (b : BoardBook) (t : Tie) (i : ℕ) (v : Bool) (within : tie_within (counts_kept b.marks) t ≡ true)
+module _ (b : BoardBook) (t : Tie) (i : ℕ) (was v : Bool) (within : tie_within (counts_kept b.marks) t ≡ true)
     (at : i ≡ place (counts_kept b.marks).names t.label t.from t.to)
-    (ss : List ℕ) (x : Bool) (read : ss ≡ vec_items b.words) (told : x ≡ bit_set ss i) (differ : not (beq x v) ≡ true)
-    (rs ws : List ℕ) (lent : rs ≡ vec_items b.words) (long : length ws ≡ length rs)
-    (turned : i < length rs * 64 → (j : ℕ) → bit_set ws j ≡ cond (eqb i j) (not (bit_set rs j)) (bit_set rs j)) where
+    (rs ws : List ℕ) (lent : rs ≡ vec_items b.words) (long : length ws ≡ length rs) (read : was ≡ bit_set rs i)
+    (set : i < length rs * 64 → (j : ℕ) → bit_set ws j ≡ cond (eqb i j) v (bit_set rs j)) where
   abbrev c : Counts
   c = counts_kept b.marks
 
@@ -77,31 +72,21 @@ module _ (b : BoardBook) (t : Tie) (i : ℕ) (v : Bool) (within : tie_within (co
   back : after ≡ ws
   back = with_items_is b.words ws (long ∙ ap length lent ∙ sym b.words.ok.0)
 
-  flipped : (j : ℕ) → bit_set after j ≡ cond (eqb here j) (not (bit_set items j)) (bit_set items j)
-  flipped j =
+  set_here : (j : ℕ) → bit_set after j ≡ cond (eqb here j) v (bit_set items j)
+  set_here j =
       let low = ties.place_below c t within in
       let in_words : i < length rs * 64 = omega (arith, at, low, b.enough, ap (λ k. k * 64) (ap length lent ∙ sym b.words.ok.0)) in
-      ap (λ us. bit_set us j) back ∙ subst (λ zs. bit_set ws j ≡ cond (eqb here j) (not (bit_set zs j)) (bit_set zs j)) lent (subst (λ k. bit_set ws j ≡ cond (eqb k j) (not (bit_set rs j)) (bit_set rs j)) at (turned in_words j))
+      ap (λ us. bit_set us j) back ∙ subst (λ zs. bit_set ws j ≡ cond (eqb here j) v (bit_set zs j)) lent (subst (λ k. bit_set ws j ≡ cond (eqb k j) v (bit_set rs j)) at (set in_words j))
 
-  was : bit_set items here ≡ not v
-  was = subst (λ zs. bit_set zs here ≡ not v) read (subst (λ k. bit_set ss k ≡ not v) at (sym told ∙ differs x v differ))
+  told : was ≡ bit_set items here
+  told = subst (λ zs. was ≡ bit_set zs here) lent (subst (λ k. was ≡ bit_set rs k) at read)
 
-  pub turned_by : Turned b t v after
-  turned_by = record {
-    ties = fun_ext3 (ties.put c items after t within flipped v was);
-    clear = ties.still_clear c items after t within flipped b.clear;
-    more = λ e. ties.put_counted c items after t within flipped b.used b.counted (was ∙ ap not e);
-    less = λ e. ties.cut_counted c items after t within flipped b.used b.counted (was ∙ ap not e);
+  pub replaced_by : Replaced b t was v after
+  replaced_by = record {
+    ties = ties.ties_replaced c items after t v within set_here;
+    clear = ties.still_clear c items after t v within set_here b.clear;
+    count = omega (arith, b.counted, ties.count_replaced c items after t v within set_here, ap from_bool told);
   }
-
--- the bit was as it should be
-pub unturned_ties : (b : BoardBook) (t : Tie) (i : ℕ) (v : Bool) → tie_within (counts_kept b.marks) t ≡ true → i ≡ place (counts_kept b.marks).names t.label t.from t.to
-    → (ss : List ℕ) (x : Bool) → ss ≡ vec_items b.words → x ≡ bit_set ss i → not (beq x v) ≡ false
-    → (board_meaning b).tied ≡ at3 (board_meaning b).tied t.label t.from t.to v
-unturned_ties b t i v within at ss x read told agree =
-    let c = counts_kept b.marks in
-    let here = place c.names t.label t.from t.to in
-    fun_ext3 (ties.put_same c (vec_items b.words) t v within (subst (λ zs. bit_set zs here ≡ v) read (subst (λ k. bit_set ss k ≡ v) at (sym told ∙ agrees x v agree))))
 
 -- a new board
 made_fitted : (c : Counts) (n : ℕ) → made_counts (fitted c n) ≡ fitted c n
@@ -119,13 +104,10 @@ new_enough c n =
     (λ (e : is_ok (fitting c n) ≡ false). subst (λ w. possible (cond w c least) ≤ n * 64) (sym e) (omega arith))
     (cases_Bool (is_ok (fitting c n)))
 
-pub cleared : (v : Vec ℕ Global) (rs ws : List ℕ) → rs ≡ vec_items v → ws ≡ replicate (length rs) 0 → vec_items (with_items v ws) ≡ replicate (length rs) 0
-cleared v rs ws lent filled = with_items_is v ws (ap length filled ∙ length-replicate (length rs) 0 ∙ ap length lent ∙ sym v.ok.0) ∙ filled
-
-pub new_means : (m : MarkBoard) (bits : List ℕ) (k n : ℕ) (c : Counts) → bits ≡ replicate k 0 → counts_kept m ≡ fitted c n → marks_kept m ≡ (λ _ _. false)
+pub new_means : (m : MarkBoard) (bits : List ℕ) (n : ℕ) (c : Counts) → bits ≡ replicate n 0 → counts_kept m ≡ fitted c n → marks_kept m ≡ (λ _ _. false)
     → ◌≡◌ {A = Meaning} (record { counts = counts_kept m; capacity = possible (counts_kept m); tied = ties_in (counts_kept m) bits; marked = marks_kept m }) (board_opened c n)
-new_means m bits k n c clear counts none =
-    ap (λ p. record { counts = counts_kept m; capacity = possible (counts_kept m); tied = p; marked = marks_kept m }) (fun_ext3 (λ x y z. ap (λ us. ties_in (counts_kept m) us x y z) clear ∙ ties.untied (counts_kept m) k x y z))
+new_means m bits n c clear counts none =
+    ap (λ p. record { counts = counts_kept m; capacity = possible (counts_kept m); tied = p; marked = marks_kept m }) (fun_ext3 (λ x y z. ap (λ us. ties_in (counts_kept m) us x y z) clear ∙ ties.untied (counts_kept m) n x y z))
     ∙ ap (λ q. record { counts = counts_kept m; capacity = possible (counts_kept m); tied = λ _ _ _. false; marked = q }) none
     ∙ ap (λ cs. opened cs (possible cs)) counts
     ∙ out (is_ok (fitting c n))

@@ -1,7 +1,8 @@
 -- How the bits of ties move.
-use Rattle.std.proofs.Common.{◌≡◌, ℕ, ◌+◌, ◌-◌, ◌*◌, ◌/◌, ◌%◌, ◌<◌, ◌≤◌, Bool, true, false, cond, not, ◌&&◌, eqb, ltb, List, replicate, sym, refl, ap, ◌∙◌, subst, ⊎_elim, mul_comm, arith}
+use Rattle.std.proofs.Common.{◌≡◌, ℕ, ◌+◌, ◌*◌, ◌/◌, ◌%◌, ◌<◌, ◌≤◌, Bool, true, false, cond, ◌&&◌, eqb, ltb, List, replicate, sym, ap, ◌∙◌, ⊎_elim, mul_comm, arith}
+use Rattle.std.specs.Int.{from_bool}
 use Rattle.std.proofs.lemmas.Bool.Decides.{nat_tests}
-use Rattle.std.proofs.lemmas.Bool.{cases_Bool, ne_eqb, eq-eqb}
+use Rattle.std.proofs.lemmas.Bool.{cases_Bool, ne_eqb}
 use Rattle.std.proofs.lemmas.Nat.{mul-add-lt, mul-le, div-mul-add, mod-mul-add}
 use Rattle.book.specs.declared.counts.Counts.{Counts}
 use Rattle.book.specs.declared.tie.Tie.{Tie}
@@ -9,14 +10,9 @@ use Rattle.bits.specs.Bits.{bit_set}
 use Rattle.book.specs.Calls.{tie_within}
 use Rattle.book.specs.Meaning.{at3, count3}
 use Rattle.bits.proofs.BitLaws.{unlit}
-use Rattle.book_laws.proofs.Counting.{count3_put, count3_cut, count3_none}
-use Rattle.marks.proofs.MarkMoves.{and_false}
+use Rattle.book_laws.proofs.Counting.{count3_at, count3_none}
 use Rattle.book_laws.proofs.Moves.{fun_ext3}
 use Rattle.board_book.specs.TieBits.{place, possible, ties_in, CountedTies, Clear}
-
-not_not : (b : Bool) → not (not b) ≡ b
-not_not true = refl
-not_not false = refl
 
 -- different ties have different bits
 place_apart : (names l f t x y z : ℕ) → f < names → t < names → y < names → z < names
@@ -43,14 +39,14 @@ few_possible c a b = mul-le (c.labels * c.names) c.names 1024 64 (mul-le c.label
 
 -- no bit is set
 pub untied : (c : Counts) (n x y z : ℕ) → ties_in c (replicate n 0) x y z ≡ false
-untied c n x y z = and_false _ _ (unlit n (place c.names x y z))
+untied c n x y z = grind (arith, unlit n (place c.names x y z))
 
 pub untied_counted : (c : Counts) (n : ℕ) → CountedTies c (replicate n 0) 0
 untied_counted c n = sym (count3_none c.labels c.names _ (untied c n))
 
--- the bit of one tie was turned over
-module _ (c : Counts) (ws vs : List ℕ) (t : Tie) (within : tie_within c t ≡ true)
-    (flipped : (j : ℕ) → bit_set vs j ≡ cond (eqb (place c.names t.label t.from t.to) j) (not (bit_set ws j)) (bit_set ws j)) where
+-- the bit of one tie was set to v
+module _ (c : Counts) (ws vs : List ℕ) (t : Tie) (v : Bool) (within : tie_within c t ≡ true)
+    (set : (j : ℕ) → bit_set vs j ≡ cond (eqb (place c.names t.label t.from t.to) j) v (bit_set ws j)) where
   abbrev here : ℕ
   here = place c.names t.label t.from t.to
 
@@ -64,19 +60,18 @@ module _ (c : Counts) (ws vs : List ℕ) (t : Tie) (within : tie_within c t ≡ 
   t_in = grind (arith, nat_tests, within)
 
   kept : (j : ℕ) → (here ≡ j → ⊥) → bit_set vs j ≡ bit_set ws j
-  kept j apart = flipped j ∙ ap (λ b. cond b (not (bit_set ws j)) (bit_set ws j)) (ne_eqb here j apart)
+  kept j apart = set j ∙ ap (λ b. cond b v (bit_set ws j)) (ne_eqb here j apart)
 
-  pub put : (v : Bool) → bit_set ws here ≡ not v → (x y z : ℕ) → ties_in c vs x y z ≡ at3 (ties_in c ws) t.label t.from t.to v x y z
-  put v was x y z =
+  set_at : (x y z : ℕ) → ties_in c vs x y z ≡ at3 (ties_in c ws) t.label t.from t.to v x y z
+  set_at x y z =
       ⊎_elim
       (λ (e : (eqb t.label x && eqb t.from y && eqb t.to z) ≡ true).
       let lx : t.label ≡ x = grind (arith, nat_tests, e) in
       let fy : t.from ≡ y = grind (arith, nat_tests, e) in
       let tz : t.to ≡ z = grind (arith, nat_tests, e) in
       let at : here ≡ place c.names x y z = cc in
-      let now-lit : bit_set vs (place c.names x y z) ≡ v =
-      subst (λ j. bit_set vs j ≡ v) at (flipped here ∙ ap (λ b. cond b (not (bit_set ws here)) (bit_set ws here)) (eq-eqb here here refl) ∙ ap not was ∙ not_not v) in
-      grind (arith, nat_tests, e, within, now-lit))
+      let bit = set (place c.names x y z) in
+      grind (arith, nat_tests, e, within, at, bit))
       (λ (e : (eqb t.label x && eqb t.from y && eqb t.to z) ≡ false).
       ⊎_elim
       (λ (w : (ltb x c.labels && ltb y c.names && ltb z c.names) ≡ true).
@@ -88,26 +83,15 @@ module _ (c : Counts) (ws vs : List ℕ) (t : Tie) (within : tie_within c t ≡ 
       (cases_Bool (ltb x c.labels && ltb y c.names && ltb z c.names)))
       (cases_Bool (eqb t.label x && eqb t.from y && eqb t.to z))
 
-  was_told : (v : Bool) → bit_set ws here ≡ v → ties_in c ws t.label t.from t.to ≡ v
-  was_told v was = grind (arith, within, was)
+  pub ties_replaced : ties_in c vs ≡ at3 (ties_in c ws) t.label t.from t.to v
+  ties_replaced = fun_ext3 set_at
 
-  pub put_counted : (used : ℕ) → CountedTies c ws used → bit_set ws here ≡ false → CountedTies c vs (used + 1)
-  put_counted used counted was =
-      let more = count3_put c.labels c.names (ties_in c ws) t.label t.from t.to l_in f_in t_in (was_told false was) in
-      let same_count = ap (count3 c.labels c.names) (fun_ext3 (put true was)) in
-      ap (λ n. n + 1) counted ∙ sym more ∙ sym same_count
-
-  pub cut_counted : (used : ℕ) → CountedTies c ws used → bit_set ws here ≡ true → (0 < used) × CountedTies c vs (used - 1)
-  cut_counted used counted was =
-      let less = count3_cut c.labels c.names (ties_in c ws) t.label t.from t.to l_in f_in t_in (was_told true was) in
-      let same_count = ap (count3 c.labels c.names) (fun_ext3 (put false was)) in
-      let now-count : used ≡ count3 c.labels c.names (ties_in c ws) = counted in
-      (omega (arith, now-count, less), omega (arith, now-count, less, same_count))
+  -- how many there are then
+  pub count_replaced : count3 c.labels c.names (ties_in c vs) + from_bool (bit_set ws here) ≡ count3 c.labels c.names (ties_in c ws) + from_bool v
+  count_replaced =
+      let moved = count3_at c.labels c.names (ties_in c ws) t.label t.from t.to l_in f_in t_in v in
+      let told : ties_in c ws t.label t.from t.to ≡ bit_set ws here = grind (arith, within) in
+      omega (arith, moved, ap (count3 c.labels c.names) ties_replaced, ap from_bool told)
 
   pub still_clear : Clear c ws → Clear c vs
   still_clear clear j past = kept j (λ same. let low = place_below c t within in omega (arith, low, same, past)) ∙ clear j past
-
--- the bit is as it should be
-pub put_same : (c : Counts) (ws : List ℕ) (t : Tie) (v : Bool) → tie_within c t ≡ true → bit_set ws (place c.names t.label t.from t.to) ≡ v
-    → (x y z : ℕ) → ties_in c ws x y z ≡ at3 (ties_in c ws) t.label t.from t.to v x y z
-put_same c ws t v within was x y z = grind (arith, nat_tests, within, was)

@@ -9,23 +9,19 @@ ghost use Rattle.marks.specs.MarkBoards.{counts_kept};
 ghost use Rattle.board_book.specs.Boards.{board_meaning, words_held};
 
 use crate::board::BoardBook;
-use bits::rows::is_set;
+use crate::making::possible_ties;
 use book::counts::Counts;
 use book::faces::{Keeping, Reading};
+use book::mark::MarkFact;
 use book::refusal::{EnterRefusal, RangeRefusal};
-use book::tie::{Direction, Tie};
+use book::tie::{Direction, Neighbours, Tie};
 
 impl Reading for BoardBook {
     ghost meaning = { board_meaning };
 
     ghost sound = { unfold ties_of in
         λ b. record {
-          limits = record {
-            some_name = b.marks.named.0;
-            few_names = b.marks.named.1;
-            few_labels = b.marks.few.0;
-            few_marks = b.marks.few.1;
-          };
+          limits = b.marks.within;
           tied_within = λ l f t e. Prim.grind (arith, nat_tests, e);
           marked_within = λ k n e. Prim.grind (arith, nat_tests, e);
           fits =
@@ -47,32 +43,25 @@ impl Reading for BoardBook {
 
     fn has_tie(&self, tie: Tie) -> Result<bool, RangeRefusal> {
         self.counts().check_tie(tie)?;
-        Ok(is_set(self.words.as_slice(), self.place(tie)))
+        Ok(self.holds(tie))
     }
 
-    fn has_mark(&self, mark: u8, name: u8) -> Result<bool, RangeRefusal> {
-        self.marks.has_mark(mark, name)
+    fn has_mark(&self, fact: MarkFact) -> Result<bool, RangeRefusal> {
+        self.marks.has_mark(fact)
     }
 
-    fn next(
-        &self,
-        label: u8,
-        dir: Direction,
-        name: u8,
-        at: u8,
-    ) -> Result<Option<u8>, RangeRefusal> {
-        self.counts().check_next(label, name, at)?;
-        match dir {
-            Direction::Forward => Ok(self.next_to(label, name, at)),
-            Direction::Backward => Ok(self.next_from(label, name, at)),
-        }
+    fn next(&self, of: Neighbours, at: u8) -> Result<Option<u8>, RangeRefusal> {
+        self.counts().check_next(of, at)?;
+        Ok(match of.direction {
+            Direction::Forward => self.next_to(of, at),
+            Direction::Backward => self.next_from(of, at),
+        })
     }
 }
 
 impl Keeping for BoardBook {
     fn capacity(&self) -> usize {
-        let counts = self.counts();
-        counts.labels as usize * counts.names as usize * counts.names as usize
+        possible_ties(self.counts())
     }
 
     fn enter(&mut self, tie: Tie) -> Result<(), EnterRefusal>
@@ -97,21 +86,21 @@ impl Keeping for BoardBook {
         Ok(())
     }
 
-    fn set_mark(&mut self, mark: u8, name: u8) -> Result<(), RangeRefusal>
-        ensures answer { result ≡ marking (board_meaning self.old) mark name }
-        ensures after { board_meaning self.new ≡ marked_as (board_meaning self.old) mark name true }
+    fn set_mark(&mut self, fact: MarkFact) -> Result<(), RangeRefusal>
+        ensures answer { result ≡ marking (board_meaning self.old) fact }
+        ensures after { board_meaning self.new ≡ marked_as (board_meaning self.old) fact true }
         ensures held { Unit {0} → Unit {0} }
         ensures long { words_held self.new ≡ words_held self.old }
     {
-        self.marks.put_mark(mark, name, true)
+        self.marks.put_mark(fact, true)
     }
 
-    fn lift_mark(&mut self, mark: u8, name: u8) -> Result<(), RangeRefusal>
-        ensures answer { result ≡ marking (board_meaning self.old) mark name }
-        ensures after { board_meaning self.new ≡ marked_as (board_meaning self.old) mark name false }
+    fn lift_mark(&mut self, fact: MarkFact) -> Result<(), RangeRefusal>
+        ensures answer { result ≡ marking (board_meaning self.old) fact }
+        ensures after { board_meaning self.new ≡ marked_as (board_meaning self.old) fact false }
         ensures held { Unit {0} → Unit {0} }
         ensures long { words_held self.new ≡ words_held self.old }
     {
-        self.marks.put_mark(mark, name, false)
+        self.marks.put_mark(fact, false)
     }
 }

@@ -15,10 +15,15 @@ use marks::mark_board::MarkBoard;
 fn fitted_counts(counts: Counts, words: usize) -> Counts
     ensures { result ≡ fitted counts words }
 {
-    match BoardBook::check(counts, words) {
-        Ok(()) => counts,
-        Err(_) => Counts::LEAST,
-    }
+    BoardBook::check(counts, words).map_or(Counts::LEAST, |()| counts)
+}
+
+// How many ties are possible.
+pub(crate) fn possible_ties(counts: Counts) -> usize
+    ensures { result ≡ possible counts }
+{
+    let names = counts.names as usize;
+    counts.labels as usize * names * names
 }
 
 impl BoardBook {
@@ -28,28 +33,27 @@ impl BoardBook {
         ensures fits { Decides (is_ok result) (Within counts × (possible counts ≤ words * 64)) }
     {
         counts.check()?;
-        if words < BoardBook::words_needed(counts) {
-            return Err(BoardRefusal::FewWords);
+        if Self::words_needed(counts) <= words {
+            Ok(())
+        } else {
+            Err(BoardRefusal::FewWords)
         }
-        Ok(())
     }
 
     // How many words a board of these counts needs.
     pub fn words_needed(counts: Counts) -> usize
         ensures { result ≡ needed counts }
     {
-        let names = counts.names as usize;
-        (counts.labels as usize * names * names).div_ceil(64)
+        possible_ties(counts).div_ceil(64)
     }
 
     // A book without ties and mark facts over the words, which are cleared; of one name, no label and
     // no mark where the check fails.
-    pub fn new(counts: Counts, words: Vec<u64>) -> BoardBook
+    pub fn new(counts: Counts, mut words: Vec<u64>) -> BoardBook
         ensures empty { board_meaning result ≡ board_opened counts (vec_len words) }
         ensures long { words_held result ≡ vec_len words }
     {
-        let mut words = words;
-        words.as_mut_slice().fill(0);
+        words.fill(0);
         let marks = MarkBoard::new(fitted_counts(counts, words.len()));
         BoardBook {
             marks,
@@ -64,11 +68,6 @@ impl BoardBook {
         ensures ties { (l f t : ℕ) → l < (board_meaning self).counts.labels → f < (board_meaning self).counts.names → t < (board_meaning self).counts.names → bit_set result.items (place (board_meaning self).counts.names l f t) ≡ (board_meaning self).tied l f t }
         ensures rest { (i : ℕ) → possible (board_meaning self).counts ≤ i → bit_set result.items i ≡ false }
     {
-        let BoardBook {
-            marks: _,
-            words,
-            used: _,
-        } = self;
-        words
+        self.words
     }
 }

@@ -1,13 +1,13 @@
 // The bit of a tie.
 ghost use Rattle.std.specs.Prelude.{◌≡◌, true};
-ghost use Rattle.book.specs.Calls.{tie_within};
+ghost use Rattle.book.specs.Calls.{has, tie_within};
 ghost use Rattle.marks.specs.MarkBoards.{counts_kept};
 ghost use Rattle.book.specs.Meaning.{at3, with_ties};
 ghost use Rattle.board_book.specs.TieBits.{place};
 ghost use Rattle.board_book.specs.Boards.{board_meaning, words_held};
 
 use crate::board::BoardBook;
-use bits::rows::{flip, is_set};
+use bits::rows::{is_set, replace};
 use book::tie::Tie;
 
 impl BoardBook {
@@ -19,6 +19,13 @@ impl BoardBook {
         (tie.label as usize * names + tie.from as usize) * names + tie.to as usize
     }
 
+    // Whether the tie is there, where its numbers are in range.
+    pub(crate) fn holds(&self, tie: Tie) -> bool
+        ensures { tie_within (counts_kept self.now.marks) tie ≡ true → result ≡ has (board_meaning self.now) tie }
+    {
+        is_set(&self.words, self.place(tie))
+    }
+
     // Puts the tie in, or takes it out.
     pub(crate) fn put_tie(&mut self, tie: Tie, value: bool)
         requires { tie_within (counts_kept self.old.marks) tie ≡ true }
@@ -26,13 +33,7 @@ impl BoardBook {
         ensures long { words_held self.new ≡ words_held self.old }
     {
         let i = self.place(tie);
-        if is_set(self.words.as_slice(), i) != value {
-            flip(self.words.as_mut_slice(), i);
-            if value {
-                self.used += 1;
-            } else {
-                self.used -= 1;
-            }
-        }
+        let was = replace(&mut self.words, i, value);
+        self.used = self.used + usize::from(value) - usize::from(was);
     }
 }

@@ -1,4 +1,4 @@
-// The next tie of a name.
+// The next of the neighbours of a name.
 ghost use Rattle.std.specs.Prelude.{◌≡◌, true};
 ghost use Rattle.book.specs.Calls.{next_within, joins};
 ghost use Rattle.marks.specs.MarkBoards.{counts_kept};
@@ -7,41 +7,25 @@ ghost use Rattle.board_book.specs.Lowest.{Lowest};
 
 use crate::board::BoardBook;
 use bits::gather::gather;
-use bits::rows::is_set;
-use book::tie::{Direction, Tie};
+use book::tie::{Direction, Neighbours};
 
 impl BoardBook {
-    // The lowest name not below `at` that the name is tied to.
-    pub(crate) fn next_to(&self, label: u8, name: u8, at: u8) -> Option<u8>
-        requires { next_within (counts_kept self.now.marks) label name at ≡ true }
-        ensures { Lowest (joins (board_meaning self.now) label Direction.Forward name) at result }
+    // The lowest of the neighbours forward that is not below `at`, by their bits at once.
+    pub(crate) fn next_to(&self, of: Neighbours, at: u8) -> Option<u8>
+        requires forward { of.direction ≡ Direction.Forward }
+        requires within { next_within (counts_kept self.now.marks) of at ≡ true }
+        ensures { Lowest (joins (board_meaning self.now) of) at result }
     {
         let left = self.marks.counts().names - at;
-        let i = self.place(Tie {
-            label,
-            from: name,
-            to: at,
-        });
-        let zeros = gather(self.words.as_slice(), i).trailing_zeros() as u8;
-        if zeros < left { Some(at + zeros) } else { None }
+        let zeros = gather(&self.words, self.place(of.tie(at))).trailing_zeros() as u8;
+        (zeros < left).then_some(at + zeros)
     }
 
-    // The lowest name not below `at` that is tied to the name.
-    pub(crate) fn next_from(&self, label: u8, name: u8, at: u8) -> Option<u8>
-        requires { next_within (counts_kept self.now.marks) label name at ≡ true }
-        ensures { Lowest (joins (board_meaning self.now) label Direction.Backward name) at result }
+    // The lowest of the neighbours that is not below `at`, one after the other; in either direction.
+    pub(crate) fn next_from(&self, of: Neighbours, at: u8) -> Option<u8>
+        requires { next_within (counts_kept self.now.marks) of at ≡ true }
+        ensures { Lowest (joins (board_meaning self.now) of) at result }
     {
-        let names = self.marks.counts().names;
-        for other in at..names {
-            let i = self.place(Tie {
-                label,
-                from: other,
-                to: name,
-            });
-            if is_set(self.words.as_slice(), i) {
-                return Some(other);
-            }
-        }
-        None
+        (at..self.marks.counts().names).find(|&other| self.holds(of.tie(other)))
     }
 }

@@ -1,27 +1,30 @@
-use Rattle.std.proofs.Common.{◌≡◌, ℕ, ◌+◌, ◌<◌, vec_items, ap, subst, arith}
+use Rattle.std.proofs.Common.{◌≡◌, ℕ, ◌+◌, ◌-◌, ◌<◌, ltb, vec_items, sym, ap, ◌∙◌, subst, arith}
+use lib.Count.{count_trailing_zeros}
+use Rattle.std.specs.Bool.{then_some}
+use Rattle.std.proofs.lemmas.Bool.Decides.{nat_tests}
 use Rattle.bits.specs.Bits.{bit, bit_set}
+use Rattle.book.specs.Calls.{joins, has}
+use Rattle.book.specs.Ties.{joining}
 use Rattle.marks.specs.MarkBoards.{counts_kept}
-use Rattle.board_book.proofs.RowLaws.{row_none, row_found}
+use Rattle.board_book.specs.Boards.{board_meaning}
+use Rattle.board_book.specs.Lowest.{Lowest}
+use Rattle.board_book.specs.TieBits.{place}
+use Rattle.board_book.proofs.RowLaws.{row_lowest}
 use Rattle.board_book.proofs.board.BoardBook.next_to.Goals as goal
 
-pub returns-then-zeros-left : goal.returns-then-zeros-left
-returns-then-zeros-left c =
+pub returns : goal.returns
+returns c =
     let b = c.args.self.now in
+    let of = c.args.of in
+    let at = c.args.at in
     let cs = counts_kept b.marks in
     let ws = vec_items b.words in
     let w = c.gather.result in
-    let i = c.place-i.result in
-    let row : (k : ℕ) → k < 64 → bit w k ≡ bit_set ws (i + k) = subst (λ us. (k : ℕ) → k < 64 → bit w k ≡ bit_set us (i + k)) c.as_slice.ensures.value c.gather.ensures in (
-      omega arith,
-      row_found cs ws c.args.label c.args.name c.args.at i w b.marks.named.1 c.requires c.place-i.ensures row (omega (arith, c.if-zeros-left.true, ap (λ x. x.names) c.counts.ensures)),
-      λ k low lt. row_none cs ws c.args.label c.args.name c.args.at i w b.marks.named.1 c.requires c.place-i.ensures row k low (λ _. omega arith),
-    )
-
-pub returns-else-zeros-left : goal.returns-else-zeros-left
-returns-else-zeros-left c k low =
-    let b = c.args.self.now in
-    let ws = vec_items b.words in
-    let w = c.gather.result in
-    let i = c.place-i.result in
-    let row : (j : ℕ) → j < 64 → bit w j ≡ bit_set ws (i + j) = subst (λ us. (j : ℕ) → j < 64 → bit w j ≡ bit_set us (i + j)) c.as_slice.ensures.value c.gather.ensures in
-    row_none (counts_kept b.marks) ws c.args.label c.args.name c.args.at i w b.marks.named.1 c.requires c.place-i.ensures row k low (λ lt. omega (arith, c.if-zeros-left.false, ap (λ x. x.names) c.counts.ensures))
+    let i = c.place.result in
+    let zeros = count_trailing_zeros 64 w in
+    let row : (k : ℕ) → k < 64 → bit w k ≡ bit_set ws (i + k) = subst (λ us. (k : ℕ) → k < 64 → bit w k ≡ bit_set us (i + k)) c.deref.ensures.value c.gather.ensures in
+    let start : i ≡ place cs.names of.label of.name at = c.place.ensures ∙ ap (λ t. place cs.names t.label t.from t.to) (c.tie.ensures ∙ ap (λ d. joining of.label d of.name at) c.requires.forward) in
+    let told : c.then_some.result ≡ then_some (ltb zeros (cs.names - at)) (at + zeros) = c.then_some.ensures ∙ ap (λ x. then_some (ltb zeros (x.names - at)) (at + zeros)) c.counts.ensures in
+    let lowest = row_lowest cs ws of.label of.name at i w b.marks.within.few_names (grind (arith, nat_tests, c.requires.within)) (grind (arith, nat_tests, c.requires.within)) start row in
+    subst (λ r. Lowest (joins (board_meaning b) of) at r) (sym told)
+    (subst (λ d. Lowest (λ y. has (board_meaning b) (joining of.label d of.name y)) at (then_some (ltb zeros (cs.names - at)) (at + zeros))) (sym c.requires.forward) lowest)
