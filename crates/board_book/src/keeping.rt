@@ -67,7 +67,6 @@ impl Keeping for BoardBook {
     fn enter(&mut self, tie: Tie) -> Result<(), EnterRefusal>
         ensures answer { result ≡ entering (board_meaning self.old) tie }
         ensures after { board_meaning self.new ≡ entered (board_meaning self.old) tie }
-        ensures held { Unit {0} → Unit {0} }
         ensures long { words_held self.new ≡ words_held self.old }
     {
         self.counts().check_tie(tie)?;
@@ -78,7 +77,6 @@ impl Keeping for BoardBook {
     fn strike(&mut self, tie: Tie) -> Result<(), RangeRefusal>
         ensures answer { result ≡ striking (board_meaning self.old) tie }
         ensures after { board_meaning self.new ≡ struck (board_meaning self.old) tie }
-        ensures held { Unit {0} → Unit {0} }
         ensures long { words_held self.new ≡ words_held self.old }
     {
         self.counts().check_tie(tie)?;
@@ -89,7 +87,6 @@ impl Keeping for BoardBook {
     fn set_mark(&mut self, fact: MarkFact) -> Result<(), RangeRefusal>
         ensures answer { result ≡ marking (board_meaning self.old) fact }
         ensures after { board_meaning self.new ≡ marked_as (board_meaning self.old) fact true }
-        ensures held { Unit {0} → Unit {0} }
         ensures long { words_held self.new ≡ words_held self.old }
     {
         self.marks.put_mark(fact, true)
@@ -98,7 +95,6 @@ impl Keeping for BoardBook {
     fn lift_mark(&mut self, fact: MarkFact) -> Result<(), RangeRefusal>
         ensures answer { result ≡ marking (board_meaning self.old) fact }
         ensures after { board_meaning self.new ≡ marked_as (board_meaning self.old) fact false }
-        ensures held { Unit {0} → Unit {0} }
         ensures long { words_held self.new ≡ words_held self.old }
     {
         self.marks.put_mark(fact, false)
