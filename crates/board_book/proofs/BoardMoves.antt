@@ -9,12 +9,12 @@ use Rattle.book.specs.declared.counts.Counts.{Counts}
 use Rattle.marks.specs.declared.mark_board.MarkBoard.{MarkBoard}
 use Rattle.book.specs.declared.tie.Tie.{Tie}
 use Rattle.bits.specs.Bits.{bit_set}
-use Rattle.book.specs.Calls.{tie_within, has, entering, entered}
+use Rattle.book.specs.Calls.{tie_within, has, entering}
 use Rattle.book.specs.Limits.{made_counts, least}
 use Rattle.marks.specs.MarkBoards.{counts_kept, marks_kept}
-use Rattle.book.specs.Meaning.{Meaning, ties_of, count3, at3, opened, with_ties}
+use Rattle.book.specs.Meaning.{Meaning, ties_of, count3, at3, opened}
 use Rattle.book_laws.proofs.Counting.{count3_le, count3_put}
-use Rattle.book_laws.proofs.Moves.{fun_ext3, entering-there, entering_room, entered_by}
+use Rattle.book_laws.proofs.Moves.{fun_ext3, entering-there, entering_room}
 use Rattle.board_book.specs.TieBits.{place, possible, ties_in, Clear}
 use Rattle.board_book.specs.Boards.{board_meaning}
 use Rattle.board_book.specs.Making.{fitting, fitted, needed, board_opened}
@@ -42,10 +42,6 @@ never_full b t within =
     let more = count3_put c.labels c.names m.tied t.label t.from t.to l-in f-in t-in off in
     entering_room m t within (omega (arith, more, count3_le c.labels c.names (at3 m.tied t.label t.from t.to true))))
     (cases_Bool (has m t))
-
-pub entered_always : (b : BoardBook) (t : Tie) (m : Meaning) → tie_within (counts_kept b.marks) t ≡ true
-    → m ≡ with_ties (board_meaning b) (at3 (board_meaning b).tied t.label t.from t.to true) → m ≡ entered (board_meaning b) t
-entered_always b t m within is = is ∙ entered_by (board_meaning b) t (at3 (board_meaning b).tied t.label t.from t.to true) (never_full b t within) (λ _ _ _. refl)
 
 -- what the words tell once the bit of a tie, which was `was`, is v
 pub record Replaced (b : BoardBook) (t : Tie) (was v : Bool) (after : List ℕ) : Type 0 where

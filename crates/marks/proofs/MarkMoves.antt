@@ -31,30 +31,34 @@ unmarked c n x y = grind (arith, unlit n (64 * x + y))
 pub unmarked_counted : (c : Counts) (n : ℕ) → CountedMarks c (replicate n 0) 0
 unmarked_counted c n = sym (count2_none c.marks c.names _ (unmarked c n))
 
--- the bit of one mark fact was set to v, and was `was`
-module _ (b : MarkBoard) (vs : List ℕ) (f : MarkFact) (v : Bool) (within : mark_within b.counts f ≡ true) (long : length b.words ≡ 16) (i : ℕ) (at : i ≡ 64 * f.mark + f.name)
-    (set : i < length b.words * 64 → (j : ℕ) → bit_set vs j ≡ cond (eqb i j) v (bit_set b.words j)) where
+-- what the words tell once the bit of a mark fact, which was `was`, is v
+pub record Replaced (b : MarkBoard) (f : MarkFact) (was v : Bool) (after : List ℕ) : Type 0 where
+  pub marks : marks_in b.counts after ≡ cond (mark_within b.counts f) (at2 (marks_in b.counts b.words) f.mark f.name v) (marks_in b.counts b.words)
+  pub count : count2 b.counts.marks b.counts.names (marks_in b.counts after) + from_bool was ≡ b.used + from_bool v
+
+module _ (b : MarkBoard) (f : MarkFact) (i : ℕ) (was v : Bool) (after : List ℕ) (within : mark_within b.counts f ≡ true) (at : i ≡ 64 * f.mark + f.name) (long : length b.words ≡ 16)
+    (read : was ≡ bit_set b.words i) (set : i < length b.words * 64 → (j : ℕ) → bit_set after j ≡ cond (eqb i j) v (bit_set b.words j)) where
   k_in : f.mark < b.counts.marks
   k_in = grind (arith, nat_tests, within)
 
   n_in : f.name < b.counts.names
   n_in = grind (arith, nat_tests, within)
 
-  set_at : (x y : ℕ) → marks_in b.counts vs x y ≡ at2 (marks_in b.counts b.words) f.mark f.name v x y
+  set_at : (x y : ℕ) → marks_in b.counts after x y ≡ at2 (marks_in b.counts b.words) f.mark f.name v x y
   set_at x y =
       let in_words : i < length b.words * 64 = omega (arith, k_in, n_in) in
       let bit = set in_words (64 * x + y) in
       grind (arith, nat_tests, within, b.within.few_names, at, bit)
 
-  pub marks_replaced : marks_in b.counts vs ≡ cond (mark_within b.counts f) (at2 (marks_in b.counts b.words) f.mark f.name v) (marks_in b.counts b.words)
-  marks_replaced = fun_ext2 set_at ∙ sym (cond-true (mark_within b.counts f) _ _ within)
-
-  -- how many there are then
-  pub count_replaced : (was : Bool) → was ≡ bit_set b.words i → count2 b.counts.marks b.counts.names (marks_in b.counts vs) + from_bool was ≡ b.used + from_bool v
-  count_replaced was read =
+  pub replaced_by : Replaced b f was v after
+  replaced_by =
+      let marks = fun_ext2 set_at in
       let moved = count2_at b.counts.marks b.counts.names (marks_in b.counts b.words) f.mark f.name k_in n_in v in
-      let here : marks_in b.counts b.words f.mark f.name ≡ was = grind (arith, within, at, read) in
-      omega (arith, b.counted, moved, ap (count2 b.counts.marks b.counts.names) (fun_ext2 set_at), ap from_bool here)
+      let told : marks_in b.counts b.words f.mark f.name ≡ was = grind (arith, within, at, read) in
+      record {
+        marks = marks ∙ sym (cond-true (mark_within b.counts f) _ _ within);
+        count = omega (arith, b.counted, moved, ap (count2 b.counts.marks b.counts.names) marks, ap from_bool told);
+      }
 
 -- there are few mark facts
 pub few_marks : (b : MarkBoard) → b.used ≤ 1024
