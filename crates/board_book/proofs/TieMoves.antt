@@ -1,8 +1,8 @@
 -- How the bits of ties move.
-use Rattle.std.proofs.Common.{◌≡◌, ℕ, ◌+◌, ◌*◌, ◌/◌, ◌%◌, ◌<◌, ◌≤◌, Bool, true, false, cond, ◌&&◌, eqb, ltb, List, replicate, sym, ap, ◌∙◌, ⊎_elim, mul_comm, arith}
+use Rattle.std.proofs.Common.{◌≡◌, ℕ, ◌+◌, ◌*◌, ◌/◌, ◌%◌, ◌<◌, ◌≤◌, Bool, true, false, cond, eqb, List, replicate, sym, ap, ◌∙◌, mul_comm, arith}
 use Rattle.std.specs.Int.{from_bool}
 use Rattle.std.proofs.lemmas.Bool.Decides.{nat_tests}
-use Rattle.std.proofs.lemmas.Bool.{cases_Bool, ne_eqb}
+use Rattle.std.proofs.lemmas.Bool.{ne_eqb}
 use Rattle.std.proofs.lemmas.Nat.{mul-add-lt, mul-le, div-mul-add, mod-mul-add}
 use Rattle.book.specs.declared.counts.Counts.{Counts}
 use Rattle.book.specs.declared.tie.Tie.{Tie}
@@ -64,24 +64,9 @@ module _ (c : Counts) (ws vs : List ℕ) (t : Tie) (v : Bool) (within : tie_with
 
   set_at : (x y z : ℕ) → ties_in c vs x y z ≡ at3 (ties_in c ws) t.label t.from t.to v x y z
   set_at x y z =
-      ⊎_elim
-      (λ (e : (eqb t.label x && eqb t.from y && eqb t.to z) ≡ true).
-      let lx : t.label ≡ x = grind (arith, nat_tests, e) in
-      let fy : t.from ≡ y = grind (arith, nat_tests, e) in
-      let tz : t.to ≡ z = grind (arith, nat_tests, e) in
-      let at : here ≡ place c.names x y z = cc in
+      let apart = place_apart c.names t.label t.from t.to x y z f_in t_in in
       let bit = set (place c.names x y z) in
-      grind (arith, nat_tests, e, within, at, bit))
-      (λ (e : (eqb t.label x && eqb t.from y && eqb t.to z) ≡ false).
-      ⊎_elim
-      (λ (w : (ltb x c.labels && ltb y c.names && ltb z c.names) ≡ true).
-      let y-in : y < c.names = grind (arith, nat_tests, w) in
-      let z-in : z < c.names = grind (arith, nat_tests, w) in
-      let same = kept (place c.names x y z) (λ same_place. let p = place_apart c.names t.label t.from t.to x y z f_in t_in y-in z-in same_place in grind (arith, nat_tests, e, p)) in
-      grind (arith, e, same))
-      (λ (w : (ltb x c.labels && ltb y c.names && ltb z c.names) ≡ false). grind (arith, e, w))
-      (cases_Bool (ltb x c.labels && ltb y c.names && ltb z c.names)))
-      (cases_Bool (eqb t.label x && eqb t.from y && eqb t.to z))
+      grind (arith, nat_tests, within, apart, bit)
 
   pub ties_replaced : ties_in c vs ≡ at3 (ties_in c ws) t.label t.from t.to v
   ties_replaced = fun_ext3 set_at

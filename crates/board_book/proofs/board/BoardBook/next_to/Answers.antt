@@ -1,5 +1,5 @@
 use Rattle.std.proofs.Common.{◌≡◌, ℕ, ◌+◌, ◌-◌, ◌<◌, ltb, vec_items, sym, ap, ◌∙◌, subst, arith}
-use lib.Count.{count_trailing_zeros}
+use Rattle.std.specs.Int.{w64, trailing_zeros}
 use Rattle.std.specs.Bool.{then_some}
 use Rattle.std.proofs.lemmas.Bool.Decides.{nat_tests}
 use Rattle.bits.specs.Bits.{bit, bit_set}
@@ -21,10 +21,10 @@ returns c =
     let ws = vec_items b.words in
     let w = c.gather.result in
     let i = c.place.result in
-    let zeros = count_trailing_zeros 64 w in
+    let zeros = trailing_zeros w64 w in
     let row : (k : ℕ) → k < 64 → bit w k ≡ bit_set ws (i + k) = subst (λ us. (k : ℕ) → k < 64 → bit w k ≡ bit_set us (i + k)) c.deref.ensures.value c.gather.ensures in
     let start : i ≡ place cs.names of.label of.name at = c.place.ensures ∙ ap (λ t. place cs.names t.label t.from t.to) (c.tie.ensures ∙ ap (λ d. joining of.label d of.name at) c.requires.forward) in
     let told : c.then_some.result ≡ then_some (ltb zeros (cs.names - at)) (at + zeros) = c.then_some.ensures ∙ ap (λ x. then_some (ltb zeros (x.names - at)) (at + zeros)) c.counts.ensures in
-    let lowest = row_lowest cs ws of.label of.name at i w b.marks.within.few_names (grind (arith, nat_tests, c.requires.within)) (grind (arith, nat_tests, c.requires.within)) start row in
+    let lowest = row_lowest cs ws of.label of.name at i w b.marks.within.few_names (grind (arith, nat_tests, c.requires.within)) (grind (arith, nat_tests, c.requires.within)) start c.gather.type_inv row in
     subst (λ r. Lowest (joins (board_meaning b) of) at r) (sym told)
     (subst (λ d. Lowest (λ y. has (board_meaning b) (joining of.label d of.name y)) at (then_some (ltb zeros (cs.names - at)) (at + zeros))) (sym c.requires.forward) lowest)
