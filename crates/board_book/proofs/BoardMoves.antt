@@ -1,5 +1,5 @@
 -- How the words of a board book move.
-use Rattle.std.proofs.Common.{◌≡◌, ℕ, ◌+◌, ◌*◌, ◌<◌, ◌≤◌, Bool, true, false, cond, eqb, List, length, replicate, is_ok, Ok, vec_items, sym, refl, ap, ◌∙◌, subst, ⊎_elim, arith}
+use Rattle.std.proofs.Common.{◌≡◌, ℕ, ◌+◌, ◌*◌, ◌<◌, ◌≤◌, Bool, true, false, cond, eqb, List, length, replicate, is_ok, Ok, vec_items, sym, refl, ap, ◌∙◌, ⊎_elim, arith}
 use Rattle.std.specs.Int.{from_bool}
 use Rattle.std.specs.Vec.{with_items}
 use Rattle.std.proofs.lemmas.List.{with_items_is}
@@ -17,7 +17,7 @@ use Rattle.book_laws.proofs.Counting.{count3_le, count3_put}
 use Rattle.book_laws.proofs.Moves.{fun_ext3, entering-there, entering_room}
 use Rattle.board_book.specs.TieBits.{place, possible, ties_in, Clear}
 use Rattle.board_book.specs.Boards.{board_meaning}
-use Rattle.board_book.specs.Making.{fitting, fitted, needed, board_opened}
+use Rattle.board_book.specs.Making.{fitting, fitted, board_opened}
 use Rattle.board_book.specs.declared.board.BoardBook.{BoardBook}
 use Rattle.board_book.proofs.TieMoves as ties
 
@@ -72,10 +72,10 @@ module _ (b : BoardBook) (t : Tie) (i : ℕ) (was v : Bool) (within : tie_within
   set_here j =
       let low = ties.place_below c t within in
       let in_words : i < length rs * 64 = omega (arith, at, low, b.enough, ap (λ k. k * 64) (ap length lent ∙ sym b.words.ok.0)) in
-      ap (λ us. bit_set us j) back ∙ subst (λ zs. bit_set ws j ≡ cond (eqb here j) v (bit_set zs j)) lent (subst (λ k. bit_set ws j ≡ cond (eqb k j) v (bit_set rs j)) at (set in_words j))
+      grind (arith, back, lent, at, set in_words j)
 
   told : was ≡ bit_set items here
-  told = subst (λ zs. was ≡ bit_set zs here) lent (subst (λ k. was ≡ bit_set rs k) at read)
+  told = grind (arith, lent, at, read)
 
   pub replaced_by : Replaced b t was v after
   replaced_by = record {
@@ -92,13 +92,7 @@ pub new_counts : (c r x : Counts) (n : ℕ) → x ≡ fitted c n → r ≡ made_
 new_counts c r x n e made = made ∙ ap made_counts e ∙ made_fitted c n
 
 pub new_enough : (c : Counts) (n : ℕ) → possible (fitted c n) ≤ n * 64
-new_enough c n =
-    ⊎_elim
-    (λ (e : is_ok (fitting c n) ≡ true).
-    let few : needed c ≤ n = grind (arith, nat_tests, e) in
-    subst (λ w. possible (cond w c least) ≤ n * 64) (sym e) (omega (arith, few)))
-    (λ (e : is_ok (fitting c n) ≡ false). subst (λ w. possible (cond w c least) ≤ n * 64) (sym e) (omega arith))
-    (cases_Bool (is_ok (fitting c n)))
+new_enough c n = grind (arith, nat_tests)
 
 pub new_means : (m : MarkBoard) (bits : List ℕ) (n : ℕ) (c : Counts) → bits ≡ replicate n 0 → counts_kept m ≡ fitted c n → marks_kept m ≡ (λ _ _. false)
     → ◌≡◌ {A = Meaning} (record { counts = counts_kept m; capacity = possible (counts_kept m); tied = ties_in (counts_kept m) bits; marked = marks_kept m }) (board_opened c n)

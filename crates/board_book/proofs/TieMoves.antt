@@ -1,9 +1,9 @@
 -- How the bits of ties move.
-use Rattle.std.proofs.Common.{◌≡◌, ℕ, ◌+◌, ◌*◌, ◌/◌, ◌%◌, ◌<◌, ◌≤◌, Bool, true, false, cond, eqb, List, replicate, sym, ap, ◌∙◌, mul_comm, arith}
+use Rattle.std.proofs.Common.{◌≡◌, ℕ, ◌+◌, ◌*◌, ◌<◌, ◌≤◌, Bool, true, false, cond, eqb, List, replicate, sym, ap, ◌∙◌, arith}
 use Rattle.std.specs.Int.{from_bool}
 use Rattle.std.proofs.lemmas.Bool.Decides.{nat_tests}
 use Rattle.std.proofs.lemmas.Bool.{ne_eqb}
-use Rattle.std.proofs.lemmas.Nat.{mul-add-lt, mul-le, div-mul-add, mod-mul-add}
+use Rattle.std.proofs.lemmas.Nat.{mul-le, same_from_place, rows}
 use Rattle.book.specs.declared.counts.Counts.{Counts}
 use Rattle.book.specs.declared.tie.Tie.{Tie}
 use Rattle.bits.specs.Bits.{bit_set}
@@ -18,21 +18,18 @@ use Rattle.board_book.specs.TieBits.{place, possible, ties_in, CountedTies, Clea
 place_apart : (names l f t x y z : ℕ) → f < names → t < names → y < names → z < names
     → place names l f t ≡ place names x y z → (l ≡ x) × (f ≡ y) × (t ≡ z)
 place_apart names l f t x y z f_in t_in y-in z-in e =
-    let rows : l * names + f ≡ x * names + y = sym (div-mul-add (l * names + f) names t t_in) ∙ ap (λ n. n / names) e ∙ div-mul-add (x * names + y) names z z-in in (
-      sym (div-mul-add l names f f_in) ∙ ap (λ n. n / names) rows ∙ div-mul-add x names y y-in,
-      sym (mod-mul-add l names f f_in) ∙ ap (λ n. n % names) rows ∙ mod-mul-add x names y y-in,
-      sym (mod-mul-add (l * names + f) names t t_in) ∙ ap (λ n. n % names) e ∙ mod-mul-add (x * names + y) names z z-in,
-    )
+    let outer = same_from_place (l * names + f) t (x * names + y) z names t_in z-in e in
+    let inner = same_from_place l f x y names f_in y-in outer.0 in
+    (inner.0, inner.1, outer.1)
+
+index_below : (a w c h : ℕ) → a < h → c < w → a * w + c < h * w
+index_below a w c h p q = grind (arith, rows)
 
 -- the bit of a possible tie is one of the first
 pub place_below : (c : Counts) (t : Tie) → tie_within c t ≡ true → place c.names t.label t.from t.to < possible c
 place_below c t within =
-    let l_in : t.label < c.labels = grind (arith, nat_tests, within) in
-    let f_in : t.from < c.names = grind (arith, nat_tests, within) in
-    let t_in : t.to < c.names = grind (arith, nat_tests, within) in
-    let row : t.label * c.names + t.from < c.names * c.labels = mul-add-lt t.label c.names t.from c.labels l_in f_in in
-    let all = mul-add-lt (t.label * c.names + t.from) c.names t.to (c.names * c.labels) row t_in in
-    omega (arith, all, ap (λ n. c.names * n) (mul_comm c.names c.labels) ∙ mul_comm c.names (c.labels * c.names))
+    let row = index_below t.label c.names t.from c.labels (grind (arith, nat_tests, within)) (grind (arith, nat_tests, within)) in
+    index_below (t.label * c.names + t.from) c.names t.to (c.labels * c.names) row (grind (arith, nat_tests, within))
 
 pub few_possible : (c : Counts) → c.labels ≤ 16 → c.names ≤ 64 → possible c ≤ 65536
 few_possible c a b = mul-le (c.labels * c.names) c.names 1024 64 (mul-le c.labels c.names 16 64 a b) b
