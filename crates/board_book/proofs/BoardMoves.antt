@@ -1,5 +1,5 @@
 -- How the words of a board book move.
-use Rattle.std.proofs.Common.{◌≡◌, ℕ, ◌+◌, ◌*◌, ◌<◌, ◌≤◌, Bool, true, false, cond, eqb, List, length, replicate, is_ok, Ok, vec_items, sym, refl, ap, ◌∙◌, ⊎_elim, arith}
+use Rattle.std.proofs.Common.{◌≡◌, ℕ, ◌+◌, ◌*◌, ◌<◌, ◌≤◌, Bool, true, false, cond, eqb, List, length, replicate, Ok, vec_items, sym, ap, ◌∙◌, ⊎_elim, arith}
 use Rattle.std.specs.Int.{from_bool}
 use Rattle.std.specs.Vec.{with_items}
 use Rattle.std.proofs.lemmas.List.{with_items_is}
@@ -10,14 +10,14 @@ use Rattle.marks.specs.declared.mark_board.MarkBoard.{MarkBoard}
 use Rattle.book.specs.declared.tie.Tie.{Tie}
 use Rattle.bits.specs.Bits.{bit_set}
 use Rattle.book.specs.Calls.{tie_within, has, entering}
-use Rattle.book.specs.Limits.{made_counts, least}
+use Rattle.book.specs.Limits.{made_counts}
 use Rattle.marks.specs.MarkBoards.{counts_kept, marks_kept}
 use Rattle.book.specs.Meaning.{Meaning, ties_of, count3, at3, opened}
 use Rattle.book_laws.proofs.Counting.{count3_le, count3_put}
 use Rattle.book_laws.proofs.Moves.{fun_ext3, entering-there, entering_room}
 use Rattle.board_book.specs.TieBits.{place, possible, ties_in, Clear}
 use Rattle.board_book.specs.Boards.{board_meaning}
-use Rattle.board_book.specs.Making.{fitting, fitted, board_opened}
+use Rattle.board_book.specs.Making.{fitted, board_opened}
 use Rattle.board_book.specs.declared.board.BoardBook.{BoardBook}
 use Rattle.board_book.proofs.TieMoves as ties
 
@@ -97,11 +97,6 @@ new_enough c n = grind (arith, nat_tests)
 pub new_means : (m : MarkBoard) (bits : List ℕ) (n : ℕ) (c : Counts) → bits ≡ replicate n 0 → counts_kept m ≡ fitted c n → marks_kept m ≡ (λ _ _. false)
     → ◌≡◌ {A = Meaning} (record { counts = counts_kept m; capacity = possible (counts_kept m); tied = ties_in (counts_kept m) bits; marked = marks_kept m }) (board_opened c n)
 new_means m bits n c clear counts none =
-    ap (λ p. record { counts = counts_kept m; capacity = possible (counts_kept m); tied = p; marked = marks_kept m }) (fun_ext3 (λ x y z. ap (λ us. ties_in (counts_kept m) us x y z) clear ∙ ties.untied (counts_kept m) n x y z))
-    ∙ ap (λ q. record { counts = counts_kept m; capacity = possible (counts_kept m); tied = λ _ _ _. false; marked = q }) none
-    ∙ ap (λ cs. opened cs (possible cs)) counts
-    ∙ out (is_ok (fitting c n))
-  where
-    out : (w : Bool) → opened (cond w c least) (possible (cond w c least)) ≡ cond w (opened c (possible c)) (opened least 0)
-    out true = refl
-    out false = refl
+    let empty : ties_in (counts_kept m) bits ≡ (λ _ _ _. false) = fun_ext3 (λ x y z. ap (λ us. ties_in (counts_kept m) us x y z) clear ∙ ties.untied (counts_kept m) n x y z) in
+    let made : opened (fitted c n) (possible (fitted c n)) ≡ board_opened c n = grind (arith, nat_tests) in
+    cc
