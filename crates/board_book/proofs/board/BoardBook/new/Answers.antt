@@ -1,9 +1,9 @@
-use Rattle.std.proofs.Common.{◌≡◌, ◌*◌, ◌≤◌, vec_len, vec_items, replicate, sym, ap, ◌∙◌, subst}
+use Rattle.std.proofs.Common.{◌≡◌, vec_len, vec_items, replicate, sym, ap, ◌∙◌, subst, arith}
 use Rattle.bits.specs.Bits.{bit_set}
 use Rattle.marks.specs.MarkBoards.{counts_kept}
 use Rattle.bits.proofs.BitLaws.{unlit}
 use Rattle.board_book.specs.Making.{fitted}
-use Rattle.board_book.specs.TieBits.{possible, CountedTies}
+use Rattle.board_book.specs.TieBits.{CountedTies}
 use Rattle.board_book.proofs.BoardMoves.{new_counts, new_enough, new_means}
 use Rattle.board_book.proofs.TieMoves.{untied_counted}
 use Rattle.board_book.proofs.board.BoardBook.new.Goals as goal
@@ -25,7 +25,7 @@ invariant_of-result c =
     let n = vec_len c.args.words in
     let cs = counts_kept c.new-marks.result in
     record {
-      enough = subst (λ x. possible x ≤ vec_len c.fill.new.self * 64) (sym (counts at)) (subst (λ k. possible (fitted c.args.counts n) ≤ k * 64) (sym c.fill.ensures.len) (new_enough c.args.counts n));
+      enough = grind (arith, counts at, c.fill.ensures.len, new_enough c.args.counts n);
       counted = subst (λ us. CountedTies cs us 0) (sym (clear at)) (untied_counted cs n);
       clear = λ i past. ap (λ us. bit_set us i) (clear at) ∙ unlit n i;
     }

@@ -1,4 +1,4 @@
-use Rattle.std.proofs.Common.{◌≡◌, ℕ, ◌+◌, ◌-◌, ◌<◌, ltb, vec_items, sym, ap, ◌∙◌, subst, arith}
+use Rattle.std.proofs.Common.{◌≡◌, ℕ, ◌+◌, ◌-◌, ◌<◌, ltb, vec_items, sym, subst, arith}
 use Rattle.std.specs.Int.{w64, trailing_zeros}
 use Rattle.std.specs.Bool.{then_some}
 use Rattle.std.proofs.lemmas.Bool.Decides.{nat_tests}
@@ -23,8 +23,8 @@ returns c =
     let i = c.place.result in
     let zeros = trailing_zeros w64 w in
     let row : (k : ℕ) → k < 64 → bit w k ≡ bit_set ws (i + k) = subst (λ us. (k : ℕ) → k < 64 → bit w k ≡ bit_set us (i + k)) c.deref.ensures.value c.gather.ensures in
-    let start : i ≡ place cs.names of.label of.name at = c.place.ensures ∙ ap (λ t. place cs.names t.label t.from t.to) (c.tie.ensures ∙ ap (λ d. joining of.label d of.name at) c.requires.forward) in
-    let told : c.then_some.result ≡ then_some (ltb zeros (cs.names - at)) (at + zeros) = c.then_some.ensures ∙ ap (λ x. then_some (ltb zeros (x.names - at)) (at + zeros)) c.counts.ensures in
+    let start : i ≡ place cs.names of.label of.name at = grind (arith, c.place.ensures, c.tie.ensures, c.requires.forward) in
+    let told : c.then_some.result ≡ then_some (ltb zeros (cs.names - at)) (at + zeros) = cc in
     let lowest = row_lowest cs ws of.label of.name at i w b.marks.within.few_names (grind (arith, nat_tests, c.requires.within)) (grind (arith, nat_tests, c.requires.within)) start c.gather.type_inv row in
     subst (λ r. Lowest (joins (board_meaning b) of) at r) (sym told)
     (subst (λ d. Lowest (λ y. has (board_meaning b) (joining of.label d of.name y)) at (then_some (ltb zeros (cs.names - at)) (at + zeros))) (sym c.requires.forward) lowest)
