@@ -64,19 +64,20 @@ absent_past : (b : BoardBook) (l : ℕ) (d : Direction) (s k : ℕ) → (counts_
 absent_past b l Forward s k le = grind (arith, nat_tests, le)
 absent_past b l Backward s k le = grind (arith, nat_tests, le)
 
--- the first name that was found is the lowest
+-- whether y is a neighbour, as a bit tells it where the tie is in range
+abbrev pub Told : BoardBook → Neighbours → Bool → ℕ → Type 0
+Told b of v y = tie_within (counts_kept b.marks) (toward of y) ≡ true → joins (board_meaning b) of y ≡ v
+
+-- the first name of which a bit tells so is the lowest of the neighbours
 pub lowest_found : (b : BoardBook) (of : Neighbours) (at n : ℕ) (r : Option ℕ) → n ≡ (counts_kept b.marks).names → next_within (counts_kept b.marks) of at ≡ true
-    → MatchOption r ((k : ℕ) → at ≤ k → k < n → tie_within (counts_kept b.marks) (toward of k) ≡ true → joins (board_meaning b) of k ≡ false)
-    (λ i. (at ≤ i) × (i < n) × (tie_within (counts_kept b.marks) (toward of i) ≡ true → joins (board_meaning b) of i ≡ true) × ((k : ℕ) → at ≤ k → k < i → tie_within (counts_kept b.marks) (toward of k) ≡ true → joins (board_meaning b) of k ≡ false))
+    → MatchOption r ((k : ℕ) → at ≤ k → k < n → Told b of false k) (λ i. (at ≤ i) × (i < n) × Told b of true i × ((k : ℕ) → at ≤ k → k < i → Told b of false k))
     → Lowest (joins (board_meaning b) of) at r
-lowest_found b of at n r same within found = told r found
+lowest_found b of at n r same within found = lowest r found
   where
     in_range : (k : ℕ) → k < n → tie_within (counts_kept b.marks) (toward of k) ≡ true
     in_range k lt = within_toward (counts_kept b.marks) of.label of.direction of.name k (grind (arith, nat_tests, within)) (grind (arith, nat_tests, within)) (omega (arith, same, lt))
 
-    told : (o : Option ℕ)
-        → MatchOption o ((k : ℕ) → at ≤ k → k < n → tie_within (counts_kept b.marks) (toward of k) ≡ true → joins (board_meaning b) of k ≡ false)
-        (λ i. (at ≤ i) × (i < n) × (tie_within (counts_kept b.marks) (toward of i) ≡ true → joins (board_meaning b) of i ≡ true) × ((k : ℕ) → at ≤ k → k < i → tie_within (counts_kept b.marks) (toward of k) ≡ true → joins (board_meaning b) of k ≡ false))
+    lowest : (o : Option ℕ) → MatchOption o ((k : ℕ) → at ≤ k → k < n → Told b of false k) (λ i. (at ≤ i) × (i < n) × Told b of true i × ((k : ℕ) → at ≤ k → k < i → Told b of false k))
         → Lowest (joins (board_meaning b) of) at o
-    told None none = λ k low. ⊎_elim (λ (lt : k < n). none k low lt (in_range k lt)) (λ (le : n ≤ k). absent_past b of.label of.direction of.name k (omega (arith, same, le))) (cases_lt k n)
-    told (Some i) first = (first.0, first.2 (in_range i first.1), λ k low lt. first.3 k low lt (in_range k (omega (arith, first.1, lt))))
+    lowest None none = λ k low. ⊎_elim (λ (lt : k < n). none k low lt (in_range k lt)) (λ (le : n ≤ k). absent_past b of.label of.direction of.name k (omega (arith, same, le))) (cases_lt k n)
+    lowest (Some i) first = (first.0, first.2 (in_range i first.1), λ k low lt. first.3 k low lt (in_range k (omega (arith, first.1, lt))))

@@ -1,13 +1,9 @@
-use Rattle.std.proofs.Common.{◌≡◌, ℕ, ◌+◌, ◌-◌, ◌<◌, ltb, vec_items, sym, subst, arith}
+use Rattle.std.proofs.Common.{◌≡◌, ℕ, ◌+◌, ◌-◌, ◌<◌, ltb, vec_items, subst, arith}
 use Rattle.std.specs.Int.{w64, trailing_zeros}
 use Rattle.std.specs.Bool.{then_some}
 use Rattle.std.proofs.lemmas.Bool.Decides.{nat_tests}
 use Rattle.bits.specs.Bits.{bit, bit_set}
-use Rattle.book.specs.Calls.{joins, has}
-use Rattle.book.specs.Ties.{joining}
 use Rattle.marks.specs.MarkBoards.{counts_kept}
-use Rattle.board_book.specs.Boards.{board_meaning}
-use Rattle.board_book.specs.Lowest.{Lowest}
 use Rattle.board_book.specs.TieBits.{place}
 use Rattle.board_book.proofs.RowLaws.{row_lowest}
 use Rattle.board_book.proofs.board.BoardBook.next_to.Goals as goal
@@ -26,5 +22,4 @@ returns c =
     let start : i ≡ place cs.names of.label of.name at = grind (arith, c.place.ensures, c.tie.ensures, c.requires.forward) in
     let told : c.then_some.result ≡ then_some (ltb zeros (cs.names - at)) (at + zeros) = cc in
     let lowest = row_lowest cs ws of.label of.name at i w b.marks.within.few_names (grind (arith, nat_tests, c.requires.within)) (grind (arith, nat_tests, c.requires.within)) start c.gather.type_inv row in
-    subst (λ r. Lowest (joins (board_meaning b) of) at r) (sym told)
-    (subst (λ d. Lowest (λ y. has (board_meaning b) (joining of.label d of.name y)) at (then_some (ltb zeros (cs.names - at)) (at + zeros))) (sym c.requires.forward) lowest)
+    rw (told, c.requires.forward) lowest
