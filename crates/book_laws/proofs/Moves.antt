@@ -1,12 +1,12 @@
 -- What a book means after a tie or a mark fact moved, for any make.
-use Rattle.std.proofs.Common.{◌≡◌, ℕ, ◌<◌, ◌≤◌, Bool, true, false, cond, is_ok, Ok, Err, sym, refl, ap, ◌∙◌, arith}
+use Rattle.std.proofs.Common.{◌≡◌, ℕ, ◌<◌, ◌≤◌, Bool, true, false, cond, is_ok, Ok, Err, sym, ap, ◌∙◌, arith}
 use mathlib.Core.Path.{fun_ext}
 use Rattle.std.proofs.lemmas.Bool.Decides.{nat_tests}
 use Rattle.book.specs.declared.tie.Tie.{Tie}
 use Rattle.book.specs.declared.refusal.EnterRefusal.{EnterRefusal}
 use Rattle.book.specs.declared.refusal.EnterRefusal.TheVariants.{Full}
-use Rattle.book.specs.Meaning.{Meaning, ties_of, at3, at2, with_ties, with_marks}
-use Rattle.book.specs.Calls.{entering, entered, struck, tie_within, has, mark_within, marked_as}
+use Rattle.book.specs.Meaning.{Meaning, ties_of, at3, with_ties}
+use Rattle.book.specs.Calls.{entering, entered, struck, tie_within, has}
 
 pub fun_ext2 : {p q : ℕ → ℕ → Bool} → ((x y : ℕ) → p x y ≡ q x y) → p ≡ q
 fun_ext2 h = fun_ext (λ x. fun_ext (λ y. h x y))
@@ -31,11 +31,6 @@ struck_by m t p ok h =
 pub struck-absent : (m : Meaning) (t : Tie) → tie_within m.counts t ≡ true → has m t ≡ false → m ≡ struck m t
 struck-absent m t ok absent = struck_by m t m.tied ok (λ x y z. grind (arith, nat_tests, absent))
 
-pub marked_by : (m : Meaning) (k n : ℕ) (v : Bool) (p : ℕ → ℕ → Bool) → mark_within m.counts k n ≡ true
-    → ((x y : ℕ) → p x y ≡ at2 m.marked k n v x y) → with_marks m p ≡ marked_as m k n v
-marked_by m k n v p ok h =
-    ap (with_marks m) (fun_ext2 h) ∙ sym (ap (λ r. cond r (with_marks m (at2 m.marked k n v)) m) ok)
-
 -- what entering answers
 pub entering-there : (m : Meaning) (t : Tie) → tie_within m.counts t ≡ true → has m t ≡ true → entering m t ≡ Ok tt
 entering-there m t within there = grind (arith, nat_tests, within, there)
@@ -48,12 +43,3 @@ entering_full m t within absent full = grind (arith, nat_tests, within, absent, 
 
 pub entered_refused : (m : Meaning) (t : Tie) (e : EnterRefusal) → entering m t ≡ Err e → m ≡ entered m t
 entered_refused m t e h = sym (ap (λ r. cond (is_ok r) (with_ties m (at3 m.tied t.label t.from t.to true)) m) h)
-
--- from a function that knows its range test by `cond`
-pub marked_either : (m : Meaning) (k n : ℕ) (v : Bool) (p : ℕ → ℕ → Bool) → p ≡ cond (mark_within m.counts k n) (at2 m.marked k n v) m.marked → with_marks m p ≡ marked_as m k n v
-marked_either m k n v p e =
-    ap (with_marks m) e ∙ cond_out (mark_within m.counts k n)
-  where
-    cond_out : (w : Bool) → with_marks m (cond w (at2 m.marked k n v) m.marked) ≡ cond w (with_marks m (at2 m.marked k n v)) m
-    cond_out true = refl
-    cond_out false = refl
