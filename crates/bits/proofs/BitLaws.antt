@@ -1,22 +1,17 @@
 -- The bits of a word, and of a row of words.
-use Rattle.std.proofs.Common.{◌≡◌, ℕ, ◌+◌, ◌-◌, ◌*◌, ◌/◌, ◌%◌, ◌^◌, ◌<◌, ◌≤◌, false, cond, not, eqb, List, length, get_or, set, replicate, sym, refl, ap, ◌∙◌, subst, ⊎_elim, arith}
-use lib.Bits.{bit_and, bit_xor, xor_zero_r}
+use Rattle.std.proofs.Common.{◌≡◌, ℕ, suc, ◌+◌, ◌-◌, ◌*◌, ◌/◌, ◌%◌, ◌^◌, ◌<◌, ◌≤◌, false, cond, not, eqb, List, length, get_or, set, replicate, sym, refl, ap, ◌∙◌, subst, ⊎_elim, arith}
+use lib.Bits.{bit_and, bit_xor, xor_zero_r, shifted_even}
 use native.Mathlib.Nat.{zero-div}
 use Rattle.std.proofs.lemmas.Bool.Decides.{nat_tests}
 use Rattle.std.proofs.lemmas.Bool.{cases_eq, cases_lt, eq-eqb, ne_eqb}
 use Rattle.std.proofs.lemmas.List.{get_or-set_same, get_or-set_other, get_or-replicate, get_or_past, length-replicate}
-use Rattle.std.proofs.lemmas.Nat.{pow_pos, pow-add, shl-shr, xor_shr, xor_mod, and_mask, mod-mul-add, div_below, mod_below, pow_below, div-add-mod'}
+use Rattle.std.proofs.lemmas.Nat.{pow_pos, pow-add, shl-shr, xor_shr, xor_mod, and_mask, div_below, mod_below, pow_below, div-add-mod'}
 use Rattle.bits.specs.Bits.{bit, bit_set}
 
 pow_bit_same : (k : ℕ) → 2 ^ k / 2 ^ k % 2 ≡ 1
 pow_bit_same k =
     let e : 1 * 2 ^ k ≡ 2 ^ k = omega arith in
     ap (λ n. n % 2) (subst (λ n. n / 2 ^ k ≡ 1) e (shl-shr 1 k))
-
-pow_even : (d : ℕ) → 2 ^ (d + 1) % 2 ≡ 0
-pow_even d =
-    let e : 2 ^ d * 2 + 0 ≡ 2 ^ (d + 1) = omega (arith, pow-add 2 d 1) in
-    subst (λ n. n % 2 ≡ 0) e (mod-mul-add (2 ^ d) 2 0 (omega arith))
 
 pow_bit_other : (k j : ℕ) → (k ≡ j → ⊥) → 2 ^ k / 2 ^ j % 2 ≡ 0
 pow_bit_other k j ne =
@@ -27,17 +22,18 @@ pow_bit_other k j ne =
     ap (λ n. n % 2) nil)
     (λ (le : j ≤ k).
     let d = k - j - 1 in
-    let e : k ≡ (d + 1) + j = omega (arith, ne) in
-    let split : 2 ^ k / 2 ^ j ≡ 2 ^ (d + 1) = ap (λ n. 2 ^ n / 2 ^ j) e ∙ ap (λ n. n / 2 ^ j) (pow-add 2 (d + 1) j) ∙ shl-shr (2 ^ (d + 1)) j in
-    ap (λ n. n % 2) split ∙ pow_even d)
+    let e : k ≡ suc d + j = omega (arith, ne) in
+    let split : 2 ^ k / 2 ^ j ≡ 2 ^ suc d = ap (λ n. 2 ^ n / 2 ^ j) e ∙ ap (λ n. n / 2 ^ j) (pow-add 2 (suc d) j) ∙ shl-shr (2 ^ suc d) j in
+    let once : 2 ^ suc d ≡ 1 * 2 ^ suc d = omega arith in
+    ap (λ n. n % 2) (split ∙ once) ∙ shifted_even 1 d)
     (cases_lt k j)
 
+-- a digit is 0 or 1
+pub digit : (P : ℕ → Type 0) (n : ℕ) → n < 2 → P 0 → P 1 → P n
+digit P n lt at0 at1 = ⊎_elim (λ (e : n ≡ 0). subst P (sym e) at0) (λ ne. let e : n ≡ 1 = omega (arith, ne) in subst P (sym e) at1) (cases_eq n 0)
+
 xor_one : (a : ℕ) → a < 2 → eqb (bit_xor a 1) 1 ≡ not (eqb a 1)
-xor_one a lt =
-    ⊎_elim
-    (λ (e : a ≡ 0). subst (λ n. eqb (bit_xor n 1) 1 ≡ not (eqb n 1)) (sym e) refl)
-    (λ ne. let e : a ≡ 1 = omega (arith, ne) in subst (λ n. eqb (bit_xor n 1) 1 ≡ not (eqb n 1)) (sym e) refl)
-    (cases_eq a 0)
+xor_one a lt = digit (λ n. eqb (bit_xor n 1) 1 ≡ not (eqb n 1)) a lt refl refl
 
 -- the bits of a word of which one was turned over
 pub bit_flip : (w k j : ℕ) → bit (bit_xor w (2 ^ k)) j ≡ cond (eqb k j) (not (bit w j)) (bit w j)
@@ -90,7 +86,3 @@ unlit n j =
     let word : get_or (replicate n 0) (j / 64) 0 ≡ 0 =
     ⊎_elim (λ lt. get_or-replicate n (j / 64) 0 0 lt) (λ le. get_or_past (replicate n 0) (j / 64) 0 (subst (λ k. k ≤ j / 64) (sym (length-replicate n 0)) le)) (cases_lt (j / 64) n) in
     ap (λ w. bit w (j % 64)) word ∙ bit_zero (j % 64)
-
--- and none past the words
-pub lit_past : (ws : List ℕ) (i : ℕ) → length ws ≤ i / 64 → bit_set ws i ≡ false
-lit_past ws i past = ap (λ w. bit w (i % 64)) (get_or_past ws (i / 64) 0 past) ∙ bit_zero (i % 64)

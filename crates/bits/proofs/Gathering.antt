@@ -1,18 +1,16 @@
 -- The bits of shifted and joined words, and the lowest bit of a word.
-use Rattle.std.proofs.Common.{◌≡◌, ℕ, zero, suc, ◌+◌, ◌-◌, ◌*◌, ◌/◌, ◌%◌, ◌^◌, ◌<◌, ◌≤◌, Bool, true, false, ◌||◌, eqb, List, get_or, sym, refl, ap, ◌∙◌, subst, ⊎_elim, mul_assoc, div-one, arith, pow_mono}
+use Rattle.std.proofs.Common.{◌≡◌, ℕ, zero, suc, ◌+◌, ◌-◌, ◌*◌, ◌/◌, ◌%◌, ◌^◌, ◌<◌, ◌≤◌, true, false, ◌||◌, eqb, List, get_or, sym, refl, ap, ◌∙◌, subst, ⊎_elim, mul_assoc, div-one, arith, pow_mono}
 use lib.Bits.{bit_or, shifted_even}
 use lib.Count.{count_trailing_zeros, under}
 use Rattle.std.proofs.lemmas.Bool.{cases_eq, cases_lt}
 use Rattle.std.proofs.lemmas.Nat.{pow_pos, pow-add, shl-shr, shr-shr, or_shr, or_mod, mod-mul-add, div_below, mod_below, field_of, mod-pow-add}
+use Rattle.std.proofs.Math.Bool.{or-false}
 use Rattle.bits.specs.Bits.{bit, bit_set}
+use Rattle.bits.proofs.BitLaws.{digit}
 
 pub bit_shr : (w s k : ℕ) → bit (w / 2 ^ s) k ≡ bit w (s + k)
 unfolding bit
 bit_shr w s k = ap (λ n. eqb (n % 2) 1) (shr-shr w s k)
-
--- a digit is 0 or 1
-digit : (P : ℕ → Type 0) (n : ℕ) → n < 2 → P 0 → P 1 → P n
-digit P n lt at0 at1 = ⊎_elim (λ (e : n ≡ 0). subst P (sym e) at0) (λ ne. let e : n ≡ 1 = omega (arith, ne) in subst P (sym e) at1) (cases_eq n 0)
 
 or_digits : (a b : ℕ) → a < 2 → b < 2 → eqb (bit_or a b) 1 ≡ (eqb a 1 || eqb b 1)
 or_digits a b a_in b-in =
@@ -57,10 +55,6 @@ bit_above w k lt le =
     let nil : w / 2 ^ k ≡ 0 = omega (arith, low) in
     ap (λ n. eqb (n % 2) 1) nil
 
-or_false : (x : Bool) → (x || false) ≡ x
-or_false true = refl
-or_false false = refl
-
 -- the bits from bit i on: the word in which it stands, and the next one
 module _ (ws : List ℕ) (i k a : ℕ) (k-in : k < 64) (first : a ≡ get_or ws (i / 64) 0) where
   within_first : i % 64 + k < 64 → bit (a / 2 ^ (i % 64)) k ≡ bit_set ws (i + k)
@@ -81,7 +75,7 @@ module _ (ws : List ℕ) (i k a : ℕ) (k-in : k < 64) (first : a ≡ get_or ws 
       ∙ ⊎_elim
       (λ (lt : k < s).
       let none : bit ((b * 2 ^ s) % 2 ^ 64) k ≡ false = upper ∙ bit_shl_low b s k lt in
-      ap (λ x. bit (a / 2 ^ (i % 64)) k || x) none ∙ or_false (bit (a / 2 ^ (i % 64)) k) ∙ within_first (omega arith))
+      ap (λ x. bit (a / 2 ^ (i % 64)) k || x) none ∙ or-false (bit (a / 2 ^ (i % 64)) k) ∙ within_first (omega arith))
       (λ (le : s ≤ k).
       let at : i / 64 + 1 ≡ (i + k) / 64 = omega arith in
       let r : k - s ≡ (i + k) % 64 = omega arith in

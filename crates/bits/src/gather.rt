@@ -1,13 +1,8 @@
 // Bits of a row of words, 64 at once.
-ghost use Rattle.std.specs.Prelude.{◌≡◌, ℕ, ◌+◌, ◌<◌, slice_index};
+ghost use Rattle.std.specs.Prelude.{◌≡◌, ℕ, ◌+◌, ◌<◌};
 ghost use Rattle.bits.specs.Bits.{bit, bit_set};
 
-// The word at this place; past the words 0.
-fn word(words: &[u64], at: usize) -> u64
-    ensures { result ≡ slice_index words.now at }
-{
-    if at < words.len() { words[at] } else { 0 }
-}
+use crate::rows::word;
 
 // The 64 bits from bit i on, bit i lowest; past the words 0.
 pub fn gather(words: &[u64], i: usize) -> u64

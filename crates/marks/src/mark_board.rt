@@ -1,5 +1,5 @@
 // What every make of a book keeps in the same way: its counts, and one bit for each possible mark fact.
-ghost use Rattle.std.specs.Prelude.{◌≤◌};
+ghost use Rattle.book.specs.Limits.{Within};
 ghost use Rattle.marks.specs.MarkBits.{CountedMarks};
 
 use book::counts::Counts;
@@ -11,7 +11,6 @@ pub struct MarkBoard {
     pub(crate) words: [u64; 16],
     // how many mark facts there are
     pub(crate) used: usize,
-    ghost named: { (1 ≤ counts.names) × (counts.names ≤ 64) },
-    ghost few: { (counts.labels ≤ 16) × (counts.marks ≤ 16) },
+    ghost within: { Within counts },
     ghost counted: { CountedMarks counts words used },
 }
