@@ -7,7 +7,7 @@ use Rattle.book.specs.declared.tie.Direction.TheVariants.{Forward, Backward}
 
 -- x is the tie of the label l from f to t
 abbrev pub is_tie : Tie → ℕ → ℕ → ℕ → Bool
-is_tie x l f t = x.label == l && x.from == f && x.to == t
+is_tie x l f t = x.label == l && (x.from == f && x.to == t)
 
 -- two ties are the same: their label, their from-name and their to-name are
 abbrev pub same_tie : Tie → Tie → Bool

@@ -1,5 +1,5 @@
 -- How the row of a list book moves.
-use Rattle.std.specs.Prelude.{◌≡◌, ℕ, ◌+◌, ◌-◌, ◌<◌, ◌≤◌, Bool, true, false, cond, not, ◌&&◌, ltb, List, [], ◌∷◌, ◌++◌, length, get_or, take, drop, set, is_ok, Ok, Err, vec_items, Vec, ◌≢◌, nat_lt, slice_index_or, slice_set, refl}
+use Rattle.std.specs.Prelude.{◌≡◌, ℕ, ◌+◌, ◌-◌, ◌<◌, ◌≤◌, Bool, true, false, cond, not, ◌&&◌, ltb, List, [], ◌∷◌, ◌++◌, length, get_or, take, drop, set, is_ok, is_some, Some, None, Ok, Err, Option, vec_items, Vec, ◌≢◌, nat_lt, slice_index_or, slice_set, refl}
 use Rattle.std.proofs.Common.{sym, ap, subst, ◌∙◌, ⊎_elim, arith, add-zero, zero-add}
 use borrow.Rule.Slice.PartMut.{put_mid, same_len_mid, put_same, set_mid_at}
 use Rattle.std.proofs.lemmas.Bool.Decides.{nat_tests}
@@ -7,7 +7,7 @@ use Rattle.std.proofs.lemmas.List.{with_items_is, get_or-take, get_or_read, leng
 use Rattle.std.proofs.lemmas.Bool.{cases_lt, cases_Bool, cond-true, cond-false}
 use Rattle.std.specs.Vec.{with_items}
 use Rattle.std.specs.declared.alloc.Global.{Global}
-use Rattle.rows.specs.Rows.{Absent, FirstAt, Grew}
+use Rattle.rows.specs.Rows.{Absent, Adds, FirstAt, Grew}
 use Rattle.book.specs.declared.counts.Counts.{Counts}
 use Rattle.book.specs.declared.tie.Tie.{Tie}
 use Rattle.book.specs.Meaning.{at3, count3, ties_of}
@@ -101,6 +101,15 @@ same_parts k xs ys e f = sym (take-append-drop k xs) ∙ (λ i. e i ++ f i) ∙ 
 grown : {X : Type 0} (xs ys : List X) (used : ℕ) (x : X) → Grew xs ys used x → ys ≡ slice_set xs used x
 grown xs ys used x h =
     same_parts (used + 1) ys (slice_set xs used x) (h.front ∙ sym (take_more_set xs used x h.room)) (h.rest ∙ sym (drop-set-lt (used + 1) xs used x (omega arith)))
+
+-- what adding answered: the thing was put, or stood there already
+pub put_behind : {X : Type 0} (same : X → X → Bool) (xs ys : List X) (used : ℕ) (x : X) (o : Option ℕ) → Adds same xs ys used x (Ok o) → is_some o ≡ false → Absent same (take used xs) (length (take used xs)) x × Grew xs ys used x
+put_behind same xs ys used x None added e = added
+put_behind same xs ys used x (Some i) added e = absurd (grind (arith, e))
+
+pub stood_already : {X : Type 0} (same : X → X → Bool) (xs ys : List X) (used : ℕ) (x : X) (o : Option ℕ) → Adds same xs ys used x (Ok o) → is_some o ≡ true → (i : ℕ) × FirstAt same (take used xs) x i × (ys ≡ xs)
+stood_already same xs ys used x None added e = absurd (grind (arith, e))
+stood_already same xs ys used x (Some i) added e = (i, added.0, added.1)
 
 -- the places up to the limit were lent as a part of rs, and hold ws now
 module _ (b : ListBook) (t : Tie) (rs ws : List Tie) (lent : rs ≡ vec_items b.row) (long : length ws ≡ length (take (b.limit - 0) rs)) where

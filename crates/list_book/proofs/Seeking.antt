@@ -1,96 +1,97 @@
--- The lowest name that a name is joined to, tie after tie.
-use Rattle.std.proofs.Common.{◌≡◌, ℕ, ◌+◌, ◌<◌, ◌≤◌, Bool, true, false, ◌||◌, ltb, List, [], ◌∷◌, ◌++◌, length, get_or, take, Ok, sym, ap, ◌∙◌, subst, ⊎_elim, arith}
+-- The neighbours that the ties of a list make, and the lowest of them.
+use Rattle.std.specs.Prelude.{◌≡◌, ℕ, ◌<◌, ◌≤◌, min, Bool, true, false, ◌&&◌, List, [], ◌∷◌, filter, fold, Some, None, Ok, Option, MatchOption, nat_eq, nat_le, if◌then◌else◌, refl}
+use Rattle.std.specs.List.{filter_map, list_any, reduce, cons_option}
+use Rattle.std.proofs.Common.{subst, ap, ◌∙◌, ⊎_elim, arith}
+use Rattle.std.proofs.lemmas.Bool.{cases_eq}
 use Rattle.std.proofs.lemmas.Bool.Decides.{nat_tests}
-use Rattle.std.proofs.lemmas.List.{take_more, take_all}
-use Rattle.std.proofs.lemmas.Bool.{cases_lt}
 use Rattle.book.specs.declared.counts.Counts.{Counts}
 use Rattle.book.specs.declared.tie.Tie.{Tie}
 use Rattle.book.specs.declared.tie.Direction.{Direction}
 use Rattle.book.specs.declared.tie.Direction.TheVariants.{Forward, Backward}
-use Rattle.book.specs.Ties.{same_tie, toward}
-use Rattle.book.specs.Calls.{next_within, ranged}
+use Rattle.book.specs.declared.tie.Neighbours.{Neighbours}
+use Rattle.book.specs.Meaning.{Meaning}
+use Rattle.book.specs.Calls.{Next, joins, next_within, ranged}
 use Rattle.marks.proofs.MarkMoves.{ranged_ok}
-use Rattle.list_book.specs.Listed.{listed, Inside}
-use Rattle.list_book.proofs.Times.{times_nil, times_push}
+use Rattle.book.specs.Ties.{same_tie, joining, toward}
+use Rattle.list_book.specs.Listed.{times, listed}
+use Rattle.list_book.specs.Neighbours.{near, far, neighbour_by, lowest}
+use Rattle.list_book.proofs.Times.{times_cons}
 
--- a tie of the list joins s to y
-abbrev pub joined : List Tie → ℕ → Direction → ℕ → ℕ → Bool
-joined xs l d s y = listed xs (toward l d s y).label (toward l d s y).from (toward l d s y).to
+-- a tie of the list makes y a neighbour
+abbrev pub joined : List Tie → Neighbours → ℕ → Bool
+joined xs of y = listed xs (toward of y).label (toward of y).from (toward of y).to
 
--- low is the lowest name from `at` on that s is joined to, or else the number of names
-abbrev pub LowestSoFar : List Tie → ℕ → Direction → ℕ → ℕ → ℕ → ℕ → Type 0
-LowestSoFar xs l d s at names low =
-    (low ≤ names) × (low < names → (at ≤ low) × (joined xs l d s low ≡ true)) × ((k : ℕ) → at ≤ k → k < low → joined xs l d s k ≡ false)
+-- k stands in the list
+abbrev has : ℕ → List ℕ → Bool
+has k ys = list_any (nat_eq k) ys
 
-pub lowest_nil : (l : ℕ) (d : Direction) (s at names : ℕ) → LowestSoFar [] l d s at names names
-lowest_nil l d s at names = (omega arith, (λ lt. absurd (omega arith)), λ k le lt. ap (ltb 0) (times_nil _ _ _))
+has_filter : (p : ℕ → Bool) (k : ℕ) (ys : List ℕ) → has k (filter p ys) ≡ (has k ys && p k)
+has_filter p k [] = refl
+has_filter p k (y ∷ ys) =
+    let rest = has_filter p k ys in
+    ⊎_elim
+    (λ (e : k ≡ y). let same = ap p e in grind (arith, nat_tests, e, same, rest))
+    (λ (ne : k ≡ y → ⊥). grind (arith, nat_tests, ne, rest))
+    (cases_eq k y)
 
--- a tie joins s to one name at most
-one_end : (x : Tie) (l : ℕ) (d : Direction) (s y k : ℕ) → same_tie x (toward l d s y) ≡ true → (k ≡ y → ⊥) → same_tie x (toward l d s k) ≡ false
-one_end x l Forward s y k there ne = grind (arith, nat_tests, there, ne)
-one_end x l Backward s y k there ne = grind (arith, nat_tests, there, ne)
+tested : (b : Bool) (y k : ℕ) (e : Bool) → (b ≡ false → e ≡ false) → (b ≡ true → e ≡ nat_eq k y) → MatchOption (if b then Some y else None) (e ≡ false) (λ z. e ≡ nat_eq k z)
+tested true y k e off on = on refl
+tested false y k e off on = off refl
 
-module _ (xs : List Tie) (x : Tie) (l : ℕ) (d : Direction) (s at names low : ℕ) (so_far : LowestSoFar xs l d s at names low) where
-  more : (k : ℕ) → joined (xs ++ x ∷ []) l d s k ≡ (joined xs l d s k || same_tie x (toward l d s k))
-  more k = grind (arith, nat_tests, times_push xs x (toward l d s k).label (toward l d s k).from (toward l d s k).to)
+-- a tie makes one neighbour, or none
+made_by : (of : Neighbours) (x : Tie) (k : ℕ) → MatchOption (neighbour_by of x) (same_tie x (toward of k) ≡ false) (λ y. same_tie x (toward of k) ≡ nat_eq k y)
+made_by of x k = by_direction of.label of.direction of.name
+  where
+    by_direction : (l : ℕ) (d : Direction) (s : ℕ) → MatchOption (if nat_eq x.label l && nat_eq (near d x) s then Some (far d x) else None) (same_tie x (joining l d s k) ≡ false) (λ y. same_tie x (joining l d s k) ≡ nat_eq k y)
+    by_direction l Forward s = tested (nat_eq x.label l && nat_eq x.from s) x.to k _ (λ e. grind (arith, nat_tests, e)) (λ e. grind (arith, nat_tests, e))
+    by_direction l Backward s = tested (nat_eq x.label l && nat_eq x.to s) x.from k _ (λ e. grind (arith, nat_tests, e)) (λ e. grind (arith, nat_tests, e))
 
-  kept : (k : ℕ) → joined xs l d s k ≡ true → joined (xs ++ x ∷ []) l d s k ≡ true
-  kept k e = grind (arith, more k, e)
+has_made : (of : Neighbours) (k : ℕ) (xs : List Tie) → has k (filter_map (neighbour_by of) xs) ≡ joined xs of k
+unfolding times
+has_made of k [] = refl
+has_made of k (x ∷ xs) = made (neighbour_by of x) (made_by of x k) (has_made of k xs)
+  where
+    made : (o : Option ℕ) → MatchOption o (same_tie x (toward of k) ≡ false) (λ y. same_tie x (toward of k) ≡ nat_eq k y) → has k (filter_map (neighbour_by of) xs) ≡ joined xs of k
+        → has k (cons_option o (filter_map (neighbour_by of) xs)) ≡ joined (x ∷ xs) of k
+    made None h rest = grind (arith, nat_tests, rest, h, times_cons x xs (toward of k).label (toward of k).from (toward of k).to)
+    made (Some y) h rest = grind (arith, nat_tests, rest, h, times_cons x xs (toward of k).label (toward of k).from (toward of k).to)
 
-  -- the tie joins s to none, or to one that is not sought
-  lowest_same : ((k : ℕ) → at ≤ k → k < low → same_tie x (toward l d s k) ≡ false) → LowestSoFar (xs ++ x ∷ []) l d s at names low
-  lowest_same other = (
-    so_far.0,
-    (λ lt. ((so_far.1 lt).0, kept low (so_far.1 lt).1)),
-    λ k le lt. grind (arith, more k, other k le lt, so_far.2 k le lt),
-  )
+fold_le : (a : ℕ) (ys : List ℕ) → fold min a ys ≤ a
+fold_le a [] = omega arith
+fold_le a (b ∷ ys) = let rest = fold_le (min a b) ys in omega (arith, rest)
 
-  -- the tie joins s to a lower one
-  lowest_less : (y : ℕ) → same_tie x (toward l d s y) ≡ true → at ≤ y → y < low → LowestSoFar (xs ++ x ∷ []) l d s at names y
-  lowest_less y there le lt = (
-    omega (arith, so_far.0),
-    (λ _. (le, grind (arith, more y, there))),
-    λ k le' lt'. grind (arith, more k, apart k lt', so_far.2 k le' (omega arith)),
-  )
-    where
-      apart : (k : ℕ) → k < y → same_tie x (toward l d s k) ≡ false
-      apart k lt' = one_end x l d s y k there (λ e. omega (arith, e))
+-- the least of a and ys stands among them, and nothing below it does
+fold_least : (a : ℕ) (ys : List ℕ) → (has (fold min a ys) (a ∷ ys) ≡ true) × ((k : ℕ) → k < fold min a ys → has k (a ∷ ys) ≡ false)
+fold_least a [] = (grind (arith, nat_tests), λ k lt. grind (arith, nat_tests, lt))
+fold_least a (b ∷ ys) =
+    let h = fold_least (min a b) ys in
+    let le = fold_le (min a b) ys in
+    (grind (arith, nat_tests, h.0), λ k lt. let n = h.1 k lt in grind (arith, nat_tests, n, lt, le))
 
-  -- the tie joins s to one that is not lower
-  lowest_more : (y : ℕ) → same_tie x (toward l d s y) ≡ true → (at ≤ y → y < low → ⊥) → LowestSoFar (xs ++ x ∷ []) l d s at names low
-  lowest_more y there not-less = lowest_same (λ k le lt. one_end x l d s y k there (λ e. not-less (subst (λ n. at ≤ n) e le) (subst (λ n. n < low) e lt)))
+least : (ys : List ℕ) → MatchOption (reduce min ys) ((k : ℕ) → has k ys ≡ false) (λ y. (has y ys ≡ true) × ((k : ℕ) → k < y → has k ys ≡ false))
+least [] = λ k. refl
+least (a ∷ ys) = fold_least a ys
 
--- one turn: what stands at i comes to what stood before it
-module _ (xs : List Tie) (i : ℕ) (x : Tie) (lt : i < length xs) (l : ℕ) (d : Direction) (s at names low new : ℕ) (so_far : LowestSoFar (take i xs) l d s at names low) where
-  onward : LowestSoFar (take i xs ++ get_or xs i x ∷ []) l d s at names new → LowestSoFar (take (i + 1) xs) l d s at names new
-  onward h = subst (λ ys. LowestSoFar ys l d s at names new) (sym (take_more xs i x lt)) h
+-- the lowest is the lowest of those that are joined
+pub lowest_is : (of : Neighbours) (at : ℕ) (xs : List Tie) → MatchOption (lowest of at xs) ((k : ℕ) → at ≤ k → joined xs of k ≡ false) (λ y. (at ≤ y) × (joined xs of y ≡ true) × ((k : ℕ) → at ≤ k → k < y → joined xs of k ≡ false))
+lowest_is of at xs = said (lowest of at xs) (least (filter (nat_le at) (filter_map (neighbour_by of) xs)))
+  where
+    found : List ℕ
+    found = filter (nat_le at) (filter_map (neighbour_by of) xs)
 
-  abbrev here : ℕ → Bool
-  here k = same_tie (get_or xs i x) (toward l d s k)
+    each : (k : ℕ) → has k found ≡ (joined xs of k && nat_le at k)
+    each k = has_filter (nat_le at) k (filter_map (neighbour_by of) xs) ∙ ap (λ b. b && nat_le at k) (has_made of k xs)
 
-  pub turn_none : new ≡ low → ((k : ℕ) → here k ≡ false) → LowestSoFar (take (i + 1) xs) l d s at names new
-  turn_none e none = onward (subst (λ n. LowestSoFar (take i xs ++ get_or xs i x ∷ []) l d s at names n) (sym e) (lowest_same (take i xs) (get_or xs i x) l d s at names low so_far (λ k _ _. none k)))
+    said : (o : Option ℕ) → MatchOption o ((k : ℕ) → has k found ≡ false) (λ y. (has y found ≡ true) × ((k : ℕ) → k < y → has k found ≡ false)) → MatchOption o ((k : ℕ) → at ≤ k → joined xs of k ≡ false) (λ y. (at ≤ y) × (joined xs of y ≡ true) × ((k : ℕ) → at ≤ k → k < y → joined xs of k ≡ false))
+    said None h = λ k le. grind (arith, nat_tests, each k, h k, le)
+    said (Some y) h = (grind (arith, nat_tests, each y, h.0), grind (arith, nat_tests, each y, h.0), λ k le lt. grind (arith, nat_tests, each k, h.1 k lt, le))
 
-  pub turn_less : (y : ℕ) → new ≡ y → here y ≡ true → at ≤ y → y < low → LowestSoFar (take (i + 1) xs) l d s at names new
-  turn_less y e there le less = onward (subst (λ n. LowestSoFar (take i xs ++ get_or xs i x ∷ []) l d s at names n) (sym e) (lowest_less (take i xs) (get_or xs i x) l d s at names low so_far y there le less))
-
-  pub turn_more : (y : ℕ) → new ≡ low → here y ≡ true → (at ≤ y → y < low → ⊥) → LowestSoFar (take (i + 1) xs) l d s at names new
-  turn_more y e there not-less = onward (subst (λ n. LowestSoFar (take i xs ++ get_or xs i x ∷ []) l d s at names n) (sym e) (lowest_more (take i xs) (get_or xs i x) l d s at names low so_far y there not-less))
-
--- after the last turn
-pub all_seen : (xs ys : List Tie) (i l : ℕ) (d : Direction) (s at names low : ℕ) → length xs ≤ i → xs ≡ ys → LowestSoFar (take i xs) l d s at names low → LowestSoFar ys l d s at names low
-all_seen xs ys i l d s at names low le e h = subst (λ zs. LowestSoFar zs l d s at names low) (take_all i xs le ∙ e) h
-
--- s is joined to none outside the counts
-none_past : (c : Counts) (xs : List Tie) (l : ℕ) (d : Direction) (s k : ℕ) → Inside c xs → c.names ≤ k → joined xs l d s k ≡ false
-none_past c xs l Forward s k inside le = grind (arith, nat_tests, inside l s k, le)
-none_past c xs l Backward s k inside le = grind (arith, nat_tests, inside l k s, le)
-
--- and so to none at all, where none was found
-pub none_found : (c : Counts) (xs : List Tie) (l : ℕ) (d : Direction) (s at names low : ℕ) → Inside c xs → names ≡ c.names → names ≤ low → LowestSoFar xs l d s at names low → (k : ℕ) → at ≤ k → joined xs l d s k ≡ false
-none_found c xs l d s at names low inside e le h k from =
-    ⊎_elim (λ (lt : k < low). h.2 k from lt) (λ (ge : low ≤ k). none_past c xs l d s k inside (omega (arith, e))) (cases_lt k low)
+-- so that it is what next answers
+pub next_told : (m : Meaning) (of : Neighbours) (at : ℕ) (o : Option ℕ) → next_within m.counts of at ≡ true
+    → MatchOption o ((k : ℕ) → at ≤ k → joins m of k ≡ false) (λ y. (at ≤ y) × (joins m of y ≡ true) × ((k : ℕ) → at ≤ k → k < y → joins m of k ≡ false)) → Next m of at (Ok o)
+next_told m of at None within h = (within, h)
+next_told m of at (Some y) within h = (within, h.0, h.1, h.2)
 
 -- a range test that was passed
-pub next_in : (c d : Counts) (l s at : ℕ) → d ≡ c → Ok tt ≡ ranged (next_within d l s at) → next_within c l s at ≡ true
-next_in c d l s at e h = subst (λ x. next_within x l s at ≡ true) e (ranged_ok (next_within d l s at) tt h)
+pub next_in : (c d : Counts) (of : Neighbours) (at : ℕ) → d ≡ c → Ok tt ≡ ranged (next_within d of at) → next_within c of at ≡ true
+next_in c d of at e h = subst (λ x. next_within x of at ≡ true) e (ranged_ok (next_within d of at) tt h)

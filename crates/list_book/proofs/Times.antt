@@ -47,6 +47,10 @@ pub times_nil : (l f t : ℕ) → times [] l f t ≡ 0
 unfolding times
 times_nil l f t = refl
 
+pub times_cons : (x : Tie) (xs : List Tie) (l f t : ℕ) → times (x ∷ xs) l f t ≡ cond (is_tie x l f t) 1 0 + times xs l f t
+unfolding times
+times_cons x xs l f t = sum_by-cons (λ y. cond (is_tie y l f t) 1 0) x xs
+
 pub times_push : (xs : List Tie) (x : Tie) (l f t : ℕ) → times (xs ++ x ∷ []) l f t ≡ times xs l f t + cond (is_tie x l f t) 1 0
 unfolding times
 times_push xs x l f t = sum_by_push (λ y. cond (is_tie y l f t) 1 0) xs x

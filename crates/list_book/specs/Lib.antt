@@ -1,2 +1,3 @@
 pub mod Listed
 pub mod ListBooks
+pub mod Neighbours

@@ -5,9 +5,9 @@ ghost use Rattle.list_book.specs.ListBooks.{list_meaning, row_items, row_entered
 
 use crate::ListBook;
 use book::faces::{Keeping, Reading};
+use book::mark::MarkFact;
 use book::refusal::{EnterRefusal, RangeRefusal};
 use book::tie::Tie;
-use rows::Added;
 
 // Each call says what the row is after it (`row`): entering and striking write at one place below the
 // capacity, and only where they alter the ties; no other call writes. The book has nothing to tell beside
@@ -24,16 +24,11 @@ impl Keeping for ListBook {
         ensures row { row_items self.new ≡ row_entered self.old tie }
     {
         self.counts().check_tie(tie)?;
-        let limit = self.limit;
         let row = self.row.as_mut_slice();
-        match rows::add(&mut row[0..limit], self.used, tie) {
-            Added::Present(_) => Ok(()),
-            Added::Placed => {
-                self.used += 1;
-                Ok(())
-            }
-            Added::Full => Err(EnterRefusal::Full),
+        if rows::add(&mut row[0..self.limit], self.used, tie)?.is_none() {
+            self.used += 1;
         }
+        Ok(())
     }
 
     fn strike(&mut self, tie: Tie) -> Result<(), RangeRefusal>
@@ -51,21 +46,21 @@ impl Keeping for ListBook {
         Ok(())
     }
 
-    fn set_mark(&mut self, mark: u8, name: u8) -> Result<(), RangeRefusal>
-        ensures answer { result ≡ marking (list_meaning self.old) mark name }
-        ensures after { list_meaning self.new ≡ marked_as (list_meaning self.old) mark name true }
+    fn set_mark(&mut self, fact: MarkFact) -> Result<(), RangeRefusal>
+        ensures answer { result ≡ marking (list_meaning self.old) fact }
+        ensures after { list_meaning self.new ≡ marked_as (list_meaning self.old) fact true }
         ensures held { Unit {0} → Unit {0} }
         ensures row { row_items self.new ≡ row_items self.old }
     {
-        self.marks.put_mark(mark, name, true)
+        self.marks.put_mark(fact, true)
     }
 
-    fn lift_mark(&mut self, mark: u8, name: u8) -> Result<(), RangeRefusal>
-        ensures answer { result ≡ marking (list_meaning self.old) mark name }
-        ensures after { list_meaning self.new ≡ marked_as (list_meaning self.old) mark name false }
+    fn lift_mark(&mut self, fact: MarkFact) -> Result<(), RangeRefusal>
+        ensures answer { result ≡ marking (list_meaning self.old) fact }
+        ensures after { list_meaning self.new ≡ marked_as (list_meaning self.old) fact false }
         ensures held { Unit {0} → Unit {0} }
         ensures row { row_items self.new ≡ row_items self.old }
     {
-        self.marks.put_mark(mark, name, false)
+        self.marks.put_mark(fact, false)
     }
 }

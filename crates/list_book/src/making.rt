@@ -52,12 +52,6 @@ impl ListBook {
         ensures row { result.items ≡ row_items self }
         ensures ties { HoldsTies (list_meaning self) result.items }
     {
-        let ListBook {
-            marks: _,
-            row,
-            limit: _,
-            used: _,
-        } = self;
-        row
+        self.row
     }
 }

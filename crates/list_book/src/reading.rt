@@ -1,40 +1,46 @@
 // Reading a list book.
-ghost use Rattle.std.specs.Prelude.{◌≡◌, ℕ, true, false, MatchOption};
+ghost use Rattle.std.specs.Prelude.{◌≡◌};
 ghost use Rattle.std.proofs.Common.{arith};
 ghost use Rattle.std.proofs.lemmas.Bool.Decides.{nat_tests};
 ghost use Rattle.book.specs.Meaning.{ties_of};
-ghost use Rattle.book.specs.Ties.{same_tie, toward};
 ghost use Rattle.list_book.specs.ListBooks.{list_meaning, row_ties};
+ghost use Rattle.list_book.specs.Neighbours.{neighbour_by, lowest};
 
 use crate::ListBook;
 use book::counts::Counts;
 use book::faces::Reading;
+use book::mark::MarkFact;
 use book::refusal::RangeRefusal;
-use book::tie::{Direction, Tie};
+use book::tie::{Direction, Neighbours, Tie};
 
 impl ListBook {
     // The ties, in the order in which they stand in the row.
     pub(crate) fn ties(&self) -> &[Tie]
         ensures { result.now ≡ row_ties self.now }
     {
-        let row = self.row.as_slice();
-        &row[0..self.used]
+        &self.row.as_slice()[..self.used]
     }
 }
 
-// The name that the tie joins the name to along the direction, if it has the label and joins it to one.
-fn other_end(tie: Tie, label: u8, dir: Direction, name: u8) -> Option<u8>
-    ensures { MatchOption result ((y : ℕ) → same_tie tie (toward label dir name y) ≡ false) (λ y. same_tie tie (toward label dir name y) ≡ true) }
+// The neighbour that the tie makes, if it makes one.
+fn neighbour_by(of: Neighbours, tie: &Tie) -> Option<u8>
+    ensures { result ≡ neighbour_by of tie.now }
 {
-    let (near, far) = match dir {
+    let (near, far) = match of.direction {
         Direction::Forward => (tie.from, tie.to),
         Direction::Backward => (tie.to, tie.from),
     };
-    if tie.label == label && near == name {
-        Some(far)
-    } else {
-        None
-    }
+    (tie.label == of.label && near == of.name).then_some(far)
+}
+
+// The lowest neighbour not below `at` that the ties make.
+fn lowest(ties: &[Tie], of: Neighbours, at: u8) -> Option<u8>
+    ensures { result ≡ lowest of at ties.now }
+{
+    ties.iter()
+        .filter_map(|tie| neighbour_by(of, tie))
+        .filter(|name| *name >= at)
+        .min()
 }
 
 impl Reading for ListBook {
@@ -42,12 +48,7 @@ impl Reading for ListBook {
 
     ghost sound = { unfold ties_of in
         λ b. record {
-          limits = record {
-            some_name = b.marks.named.0;
-            few_names = b.marks.named.1;
-            few_labels = b.marks.few.0;
-            few_marks = b.marks.few.1;
-          };
+          limits = b.marks.within;
           tied_within = λ l f t e.
               let within = b.inside l f t in (
                 Prim.grind (arith, nat_tests, e, within),
@@ -76,31 +77,12 @@ impl Reading for ListBook {
         Ok(rows::find(self.ties(), &tie).is_some())
     }
 
-    fn has_mark(&self, mark: u8, name: u8) -> Result<bool, RangeRefusal> {
-        self.marks.has_mark(mark, name)
+    fn has_mark(&self, fact: MarkFact) -> Result<bool, RangeRefusal> {
+        self.marks.has_mark(fact)
     }
 
-    fn next(
-        &self,
-        label: u8,
-        dir: Direction,
-        name: u8,
-        at: u8,
-    ) -> Result<Option<u8>, RangeRefusal> {
-        let counts = self.counts();
-        counts.check_next(label, name, at)?;
-        let mut lowest = counts.names;
-        for tie in self.ties() {
-            if let Some(other) = other_end(*tie, label, dir, name) {
-                if at <= other && other < lowest {
-                    lowest = other;
-                }
-            }
-        }
-        Ok(if lowest < counts.names {
-            Some(lowest)
-        } else {
-            None
-        })
+    fn next(&self, of: Neighbours, at: u8) -> Result<Option<u8>, RangeRefusal> {
+        self.counts().check_next(of, at)?;
+        Ok(lowest(self.ties(), of, at))
     }
 }

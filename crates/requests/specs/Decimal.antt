@@ -1,10 +1,11 @@
 -- Decimal numbers as they are written.
-use Rattle.std.specs.Prelude.{ℕ, ◌+◌, ◌-◌, ◌*◌, min, Bool, true, cond, ◌&&◌, List, [], ◌∷◌, Some, None, Option, nat_le}
+use Rattle.std.specs.Prelude.{ℕ, ◌+◌, ◌-◌, ◌*◌, min, Bool, true, cond, ◌&&◌, List, [], ◌∷◌, Some, None, Option}
+use Rattle.std.specs.Char.{is_ascii_digit}
 
 -- every byte is a digit, 0 to 9
 abbrev pub digits : List ℕ → Bool
 digits [] = true
-digits (b ∷ bs) = (nat_le 48 b && nat_le b 57) && digits bs
+digits (b ∷ bs) = is_ascii_digit b && digits bs
 
 -- the number that digits write behind a number that is written already
 abbrev pub value : ℕ → List ℕ → ℕ

@@ -10,13 +10,12 @@ pub fn decimal(word: &[u8], most: u16) -> Option<u16>
     if word.is_empty() {
         return None;
     }
-    let mut number: u16 = 0;
+    let mut number = 0;
     for byte in word {
-        let b = *byte;
-        if b < b'0' || b > b'9' {
+        if !byte.is_ascii_digit() {
             return None;
         }
-        number = one_more_digit(number, b - b'0', most);
+        number = one_more_digit(number, *byte - b'0', most);
     }
     Some(number)
 }
@@ -25,12 +24,7 @@ pub fn decimal(word: &[u8], most: u16) -> Option<u16>
 fn one_more_digit(number: u16, digit: u8, most: u16) -> u16
     ensures { result ≡ min (10 * number + digit) most }
 {
-    let next = 10 * u32::from(number) + u32::from(digit);
-    if next < u32::from(most) {
-        next as u16
-    } else {
-        most
-    }
+    (10 * u32::from(number) + u32::from(digit)).min(u32::from(most)) as u16
 }
 
 // The number as the calls of a book take it. Every number from 255 on is below no count, so that 255
@@ -38,8 +32,5 @@ fn one_more_digit(number: u16, digit: u8, most: u16) -> u16
 pub fn byte_number(word: &[u8]) -> Option<u8>
     ensures { result ≡ written word.now 255 }
 {
-    match decimal(word, 255) {
-        Some(number) => u8::try_from(number).ok(),
-        None => None,
-    }
+    u8::try_from(decimal(word, 255)?).ok()
 }

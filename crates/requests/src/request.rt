@@ -1,27 +1,28 @@
 // What a book is asked at the console, and what it replies.
-ghost use Rattle.std.specs.Prelude.{◌≡◌};
+ghost use Rattle.std.specs.Prelude.{◌≡◌, Ok};
+ghost use Rattle.runs.specs.Runs.{answer, after};
 ghost use Rattle.requests.specs.Requests.{Replies, meaning_after};
 
 use book::counts::Counts;
 use book::faces::Keeping;
+use book::mark::MarkFact;
 use book::refusal::EnterRefusal;
-use book::tie::{Direction, Tie};
-use runs::play::{Call, play};
+use book::tie::{Neighbours, Tie};
+use runs::play::{Answer, Call, play};
 
 // A request to a book of any make.
-#[derive(Clone, Copy)]
+#[derive(Clone, Copy, Debug, PartialEq, Eq)]
 pub enum Request {
     Alter(Call),
     HasTie(Tie),
-    // a mark and a name
-    HasMark(u8, u8),
-    // a label, a direction, a name and the lowest name that may be told
-    Next(u8, Direction, u8, u8),
+    HasMark(MarkFact),
+    // the neighbours of a name, and the lowest name that may be told
+    Next(Neighbours, u8),
     Tally,
 }
 
 // How much a book holds, and how much it can.
-#[derive(Clone, Copy)]
+#[derive(Clone, Copy, Debug, PartialEq, Eq)]
 pub struct Tally {
     pub counts: Counts,
     pub ties: usize,
@@ -29,11 +30,10 @@ pub struct Tally {
     pub capacity: usize,
 }
 
-// What a request is replied.
-#[derive(Clone, Copy)]
+// What a request is replied where it is not refused.
+#[derive(Clone, Copy, Debug, PartialEq, Eq)]
 pub enum Reply {
     Done,
-    Refused(EnterRefusal),
     Told(bool),
     // the number of a name, or none
     Name(Option<u8>),
@@ -41,46 +41,37 @@ pub enum Reply {
 }
 
 // Puts the request to the book.
-pub fn perform<B: Keeping>(book: &mut B, request: Request) -> Reply
-    ensures reply { Replies (B.Reading.meaning book.old) request result }
-    ensures after { B.Reading.meaning book.new ≡ meaning_after (B.Reading.meaning book.old) request }
-    ensures held { B.Keeping.holds book.old → B.Keeping.holds book.new }
+pub fn perform<B: Keeping>(book: &mut B, request: Request) -> Result<Reply, EnterRefusal>
+    ensures reply { Replies (B.meaning book.old) request result }
+    ensures after { B.meaning book.new ≡ meaning_after (B.meaning book.old) request }
+    ensures held { B.holds book.old → B.holds book.new }
 {
-    match request {
-        Request::Alter(call) => alter(book, call),
-        Request::HasTie(tie) => match book.has_tie(tie) {
-            Ok(there) => Reply::Told(there),
-            Err(refusal) => Reply::Refused(refusal.into()),
-        },
-        Request::HasMark(mark, name) => match book.has_mark(mark, name) {
-            Ok(there) => Reply::Told(there),
-            Err(refusal) => Reply::Refused(refusal.into()),
-        },
-        Request::Next(label, dir, name, at) => match book.next(label, dir, name, at) {
-            Ok(found) => Reply::Name(found),
-            Err(refusal) => Reply::Refused(refusal.into()),
-        },
+    Ok(match request {
+        Request::Alter(call) => {
+            alter(book, call)?;
+            Reply::Done
+        }
+        Request::HasTie(tie) => Reply::Told(book.has_tie(tie)?),
+        Request::HasMark(fact) => Reply::Told(book.has_mark(fact)?),
+        Request::Next(of, at) => Reply::Name(book.next(of, at)?),
         Request::Tally => Reply::Tally(count_up(book)),
-    }
+    })
 }
 
 // Makes an altering call, as a list of one.
-fn alter<B: Keeping>(book: &mut B, call: Call) -> Reply
-    ensures reply { Replies (B.Reading.meaning book.old) (Request.Alter call) result }
-    ensures after { B.Reading.meaning book.new ≡ meaning_after (B.Reading.meaning book.old) (Request.Alter call) }
-    ensures held { B.Keeping.holds book.old → B.Keeping.holds book.new }
+fn alter<B: Keeping>(book: &mut B, call: Call) -> Answer
+    ensures answer { result ≡ answer (B.meaning book.old) call }
+    ensures after { B.meaning book.new ≡ after (B.meaning book.old) call }
+    ensures held { B.holds book.old → B.holds book.new }
 {
     let mut answers = [Ok(())];
     play(book, &[call], &mut answers);
-    match answers[0] {
-        Ok(()) => Reply::Done,
-        Err(refusal) => Reply::Refused(refusal),
-    }
+    answers[0]
 }
 
 // What the book holds.
 fn count_up<B: Keeping>(book: &B) -> Tally
-    ensures { Replies (B.Reading.meaning book.now) Request.Tally (Reply.Tally result) }
+    ensures { Replies (B.meaning book.now) Request.Tally (Ok (Reply.Tally result)) }
 {
     Tally {
         counts: book.counts(),

@@ -35,7 +35,7 @@ marks_tied : (w : Bool) (m : Meaning) (p : ℕ → ℕ → Bool) (l f t : ℕ) �
 marks_tied true m p l f t = refl
 marks_tied false m p l f t = refl
 
--- an accepted call that effect something of an item is obeyed
+-- an accepted call that settles something of an item is obeyed
 obeyed : (m : Meaning) (c : Call) (x : Item) (v : Bool) → answer m c ≡ Ok tt → effect c x ≡ Some v → there (after m c) x ≡ v
 obeyed m (Enter u) (tie l f t) v ok s =
     tied_of (isOk (entering m u)) m (at3 m.tied u.label u.from u.to true) l f t ∙ (let w = ap isOk ok in grind (arith, nat_tests, s, w))
@@ -43,10 +43,10 @@ obeyed m (Enter u) (mark k n) v ok s = absurd (grind (arith, s))
 obeyed m (Strike u) (tie l f t) v ok s =
     tied_of (tie_within m.counts u) m (at3 m.tied u.label u.from u.to false) l f t ∙ grind (arith, nat_tests, s, ok)
 obeyed m (Strike u) (mark k n) v ok s = absurd (grind (arith, s))
-obeyed m (SetMark j o) (tie l f t) v ok s = absurd (grind (arith, s))
-obeyed m (SetMark j o) (mark k n) v ok s = marked_of (mark_within m.counts j o) m (at2 m.marked j o true) k n ∙ grind (arith, nat_tests, s, ok)
-obeyed m (LiftMark j o) (tie l f t) v ok s = absurd (grind (arith, s))
-obeyed m (LiftMark j o) (mark k n) v ok s = marked_of (mark_within m.counts j o) m (at2 m.marked j o false) k n ∙ grind (arith, nat_tests, s, ok)
+obeyed m (SetMark g) (tie l f t) v ok s = absurd (grind (arith, s))
+obeyed m (SetMark g) (mark k n) v ok s = marked_of (mark_within m.counts g) m (at2 m.marked g.mark g.name true) k n ∙ grind (arith, nat_tests, s, ok)
+obeyed m (LiftMark g) (tie l f t) v ok s = absurd (grind (arith, s))
+obeyed m (LiftMark g) (mark k n) v ok s = marked_of (mark_within m.counts g) m (at2 m.marked g.mark g.name false) k n ∙ grind (arith, nat_tests, s, ok)
 
 -- a range test that may have passed, and a fact that the call does not speak of
 quiet_tie : (m : Meaning) (u : Tie) (l f t : ℕ) (v w : Bool) → (ranging (ranged w) ≡ Ok tt → cond (eqb u.label l && eqb u.from f && eqb u.to t) (Some v) None ≡ None)
@@ -70,10 +70,10 @@ unheard m (Enter u) (tie l f t) quiet = tied_of (isOk (entering m u)) m _ l f t 
 unheard m (Enter u) (mark k n) quiet = ties_marked (isOk (entering m u)) m _ k n
 unheard m (Strike u) (tie l f t) quiet = tied_of (tie_within m.counts u) m _ l f t ∙ quiet_tie m u l f t false (tie_within m.counts u) quiet
 unheard m (Strike u) (mark k n) quiet = ties_marked (tie_within m.counts u) m _ k n
-unheard m (SetMark j o) (tie l f t) quiet = marks_tied (mark_within m.counts j o) m _ l f t
-unheard m (SetMark j o) (mark k n) quiet = marked_of (mark_within m.counts j o) m _ k n ∙ quiet_mark m j o k n true (mark_within m.counts j o) quiet
-unheard m (LiftMark j o) (tie l f t) quiet = marks_tied (mark_within m.counts j o) m _ l f t
-unheard m (LiftMark j o) (mark k n) quiet = marked_of (mark_within m.counts j o) m _ k n ∙ quiet_mark m j o k n false (mark_within m.counts j o) quiet
+unheard m (SetMark g) (tie l f t) quiet = marks_tied (mark_within m.counts g) m _ l f t
+unheard m (SetMark g) (mark k n) quiet = marked_of (mark_within m.counts g) m _ k n ∙ quiet_mark m g.mark g.name k n true (mark_within m.counts g) quiet
+unheard m (LiftMark g) (tie l f t) quiet = marks_tied (mark_within m.counts g) m _ l f t
+unheard m (LiftMark g) (mark k n) quiet = marked_of (mark_within m.counts g) m _ k n ∙ quiet_mark m g.mark g.name k n false (mark_within m.counts g) quiet
 
 -- no call alters the counts or the capacity
 cond_counts : (w : Bool) (m n : Meaning) → n.counts ≡ m.counts → (cond w n m).counts ≡ m.counts
@@ -87,14 +87,14 @@ cond_capacity false m n e = refl
 after_counts : (m : Meaning) (c : Call) → (after m c).counts ≡ m.counts
 after_counts m (Enter u) = cond_counts (isOk (entering m u)) m _ refl
 after_counts m (Strike u) = cond_counts (tie_within m.counts u) m _ refl
-after_counts m (SetMark j o) = cond_counts (mark_within m.counts j o) m _ refl
-after_counts m (LiftMark j o) = cond_counts (mark_within m.counts j o) m _ refl
+after_counts m (SetMark g) = cond_counts (mark_within m.counts g) m _ refl
+after_counts m (LiftMark g) = cond_counts (mark_within m.counts g) m _ refl
 
 after_capacity : (m : Meaning) (c : Call) → (after m c).capacity ≡ m.capacity
 after_capacity m (Enter u) = cond_capacity (isOk (entering m u)) m _ refl
 after_capacity m (Strike u) = cond_capacity (tie_within m.counts u) m _ refl
-after_capacity m (SetMark j o) = cond_capacity (mark_within m.counts j o) m _ refl
-after_capacity m (LiftMark j o) = cond_capacity (mark_within m.counts j o) m _ refl
+after_capacity m (SetMark g) = cond_capacity (mark_within m.counts g) m _ refl
+after_capacity m (LiftMark g) = cond_capacity (mark_within m.counts g) m _ refl
 
 reached_counts : (m : Meaning) (cs : List Call) → (reached m cs).counts ≡ m.counts
 reached_counts m [] = refl
@@ -108,7 +108,7 @@ unaffected_reached : (m : Meaning) (cs : List Call) (x : Item) → Unaffected m 
 unaffected_reached m [] x u = refl
 unaffected_reached m (c ∷ cs) x u = unaffected_reached (after m c) cs x u.1 ∙ unheard m c x u.0
 
--- The last accepted call that effect something of an item decides.
+-- The last accepted call that settles something of an item decides.
 pub last_decides : (m : Meaning) (cs : List Call) → LastDecides m cs (reached m cs)
 last_decides m cs = record {
   counts_stay = reached_counts m cs;

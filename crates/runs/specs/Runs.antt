@@ -18,15 +18,15 @@ ranging (Err e) = Err (Range e)
 abbrev pub answer : Meaning → Call → Result (Unit {0}) EnterRefusal
 answer m (Enter t) = entering m t
 answer m (Strike t) = ranging (striking m t)
-answer m (SetMark k n) = ranging (marking m k n)
-answer m (LiftMark k n) = ranging (marking m k n)
+answer m (SetMark f) = ranging (marking m f)
+answer m (LiftMark f) = ranging (marking m f)
 
 -- what the book means after it
 abbrev pub after : Meaning → Call → Meaning
 after m (Enter t) = entered m t
 after m (Strike t) = struck m t
-after m (SetMark k n) = marked_as m k n true
-after m (LiftMark k n) = marked_as m k n false
+after m (SetMark f) = marked_as m f true
+after m (LiftMark f) = marked_as m f false
 
 -- what the calls of a list, made one after the other, are answered
 abbrev pub answered : Meaning → List Call → List (Result (Unit {0}) EnterRefusal)
@@ -48,23 +48,23 @@ abbrev pub there : Meaning → Item → Bool
 there m (tie l f t) = m.tied l f t
 there m (mark k n) = m.marked k n
 
--- what a call effect of an item: that it is to be there, that it is not to be there, or nothing
+-- what a call settles of an item: that it is to be there, that it is not to be there, or nothing
 abbrev pub effect : Call → Item → Option Bool
 effect (Enter u) (tie l f t) = cond (is_tie u l f t) (Some true) None
 effect (Enter u) (mark k n) = None
 effect (Strike u) (tie l f t) = cond (is_tie u l f t) (Some false) None
 effect (Strike u) (mark k n) = None
-effect (SetMark j o) (tie l f t) = None
-effect (SetMark j o) (mark k n) = cond (j == k && o == n) (Some true) None
-effect (LiftMark j o) (tie l f t) = None
-effect (LiftMark j o) (mark k n) = cond (j == k && o == n) (Some false) None
+effect (SetMark g) (tie l f t) = None
+effect (SetMark g) (mark k n) = cond (g.mark == k && g.name == n) (Some true) None
+effect (LiftMark g) (tie l f t) = None
+effect (LiftMark g) (mark k n) = cond (g.mark == k && g.name == n) (Some false) None
 
--- no accepted call of the list effect anything of the item
+-- no accepted call of the list settles anything of the item
 abbrev pub Unaffected : Meaning → List Call → Item → Type 0
 Unaffected m [] x = Unit {0}
 Unaffected m (c ∷ cs) x = (answer m c ≡ Ok tt → effect c x ≡ None) × Unaffected (after m c) cs x
 
--- The last accepted call that effect something of a tie or a mark fact decides whether it is there; where
+-- The last accepted call that settles something of a tie or a mark fact decides whether it is there; where
 -- none does, it is there exactly when it was. Counts and capacity stay.
 pub record LastDecides (m : Meaning) (cs : List Call) (n : Meaning) : Type 0 where
   pub counts_stay : n.counts ≡ m.counts
