@@ -1,8 +1,7 @@
 // Making a board book, and taking it apart.
-ghost use Rattle.std.specs.Prelude.{◌≡◌, ℕ, ◌*◌, ◌<◌, ◌≤◌, false, is_ok, vec_len, Decides};
-ghost use Rattle.bits.specs.Bits.{bit_set};
+ghost use Rattle.std.specs.Prelude.{◌≡◌, ◌*◌, ◌≤◌, is_ok, vec_len, Decides};
 ghost use Rattle.book.specs.Limits.{Within};
-ghost use Rattle.board_book.specs.TieBits.{place, possible};
+ghost use Rattle.board_book.specs.TieBits.{possible, TellTies, Clear};
 ghost use Rattle.board_book.specs.Making.{fitting, fitted, needed, board_opened};
 ghost use Rattle.board_book.specs.Boards.{board_meaning, words_held};
 
@@ -65,8 +64,8 @@ impl BoardBook {
     // Takes the book apart and gives the words back.
     pub fn into_words(self) -> Vec<u64>
         ensures long { vec_len result ≡ words_held self }
-        ensures ties { (l f t : ℕ) → l < (board_meaning self).counts.labels → f < (board_meaning self).counts.names → t < (board_meaning self).counts.names → bit_set result.items (place (board_meaning self).counts.names l f t) ≡ (board_meaning self).tied l f t }
-        ensures rest { (i : ℕ) → possible (board_meaning self).counts ≤ i → bit_set result.items i ≡ false }
+        ensures ties { TellTies (board_meaning self) result.items }
+        ensures rest { Clear (board_meaning self).counts result.items }
     {
         self.words
     }
