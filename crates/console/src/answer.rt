@@ -1,70 +1,113 @@
 // Answer lines.
+use book::refusal::EnterRefusal;
 use policy_reader::fault::PolicyFault;
-use requests::request::{Reply, Tally};
-use roll::list::List;
-use roll::roll::{Roll, RollFault};
-use std::alloc::{AllocError, Global};
+use requests::request::Tally;
+use roll::roll::RollFault;
+use std::alloc::AllocError;
+use std::io::Write;
+use std::{fmt, io};
 
-// Adds bytes to the output.
-pub fn say(out: &mut Vec<u8>, bytes: &[u8]) -> Result<(), AllocError> {
-    out.extend_from_slice(bytes)
+// What a line is answered where it is not refused.
+#[derive(Clone, Copy)]
+pub enum Answer<'a> {
+    Done,
+    Told(bool),
+    // the word of a name, or none
+    Name(Option<&'a [u8]>),
+    Tally(Tally),
 }
 
-// Says what a book replied. A name is said by its word.
-pub fn say_reply(
-    heap: Global,
-    roll: Roll<'_>,
-    reply: Reply,
-    out: &mut Vec<u8>,
-) -> Result<(), AllocError> {
-    match reply {
-        Reply::Done => say(out, b"ok"),
-        Reply::Refused(refusal) => {
-            let number = refusal.number();
-            let text = format!(in heap; "refused={number}")?;
-            say(out, text.as_bytes())
+// Why a line is refused.
+#[derive(Clone, Copy)]
+pub enum Refusal<'a> {
+    UnknownCommand(&'a [u8]),
+    UnknownWord(&'a [u8]),
+    NoBook,
+    Roll(RollFault),
+    Policy(PolicyFault),
+    Book(EnterRefusal),
+    OutOfMemory(AllocError),
+}
+
+impl Answer<'_> {
+    // Adds the answer to the output.
+    pub fn write_to(self, out: &mut impl Write) -> io::Result<()> {
+        match self {
+            Answer::Done => out.write_all(b"ok"),
+            Answer::Told(true) => out.write_all(b"yes"),
+            Answer::Told(false) => out.write_all(b"no"),
+            Answer::Name(word) => out.write_all(word.unwrap_or(b"none")),
+            Answer::Tally(tally) => write_tally(tally, out),
         }
-        Reply::Told(true) => say(out, b"yes"),
-        Reply::Told(false) => say(out, b"no"),
-        Reply::Name(None) => say(out, b"none"),
-        Reply::Name(Some(number)) => say(out, roll.word(List::Names, number).unwrap_or(b"none")),
-        Reply::Tally(tally) => say_tally(heap, tally, out),
     }
 }
 
-// Says how much a book holds.
-fn say_tally(heap: Global, tally: Tally, out: &mut Vec<u8>) -> Result<(), AllocError> {
-    let names = tally.counts.names;
-    let labels = tally.counts.labels;
-    let marks = tally.counts.marks;
-    let ties = tally.ties;
-    let marked = tally.marked;
-    let capacity = tally.capacity;
-    let text = format!(in heap;
-        "names={names} labels={labels} marks={marks} ties={ties} marked={marked} capacity={capacity}"
+fn write_tally(tally: Tally, out: &mut impl Write) -> io::Result<()> {
+    let counts = tally.counts;
+    write!(
+        out,
+        "names={} labels={} marks={}",
+        counts.names, counts.labels, counts.marks
     )?;
-    say(out, text.as_bytes())
+    write!(
+        out,
+        " ties={} marked={} capacity={}",
+        tally.ties, tally.marked, tally.capacity
+    )
 }
 
-// Says why a text is no policy: the number, and the place in the text.
-pub fn say_policy_fault(
-    heap: Global,
-    fault: PolicyFault,
-    out: &mut Vec<u8>,
-) -> Result<(), AllocError> {
-    let number = fault.number();
-    let at = fault.at();
-    let text = format!(in heap; "refused={number} at={at}")?;
-    say(out, text.as_bytes())
+impl Refusal<'_> {
+    // Adds the refusal to the output; out of memory ends the session instead.
+    pub fn write_to(self, out: &mut impl Write) -> io::Result<()> {
+        match self {
+            Refusal::UnknownCommand(line) => {
+                out.write_all(b"unknown command: ")?;
+                out.write_all(line)
+            }
+            Refusal::UnknownWord(word) => {
+                out.write_all(b"unknown word: ")?;
+                out.write_all(word)
+            }
+            Refusal::NoBook => out.write_all(b"no book"),
+            Refusal::Roll(fault) => {
+                write!(
+                    out,
+                    "refused={} text={}",
+                    fault.number(),
+                    fault.list.number()
+                )?;
+                match fault.at() {
+                    Some(at) => write!(out, " at={at}"),
+                    None => Ok(()),
+                }
+            }
+            Refusal::Policy(fault) => write!(out, "refused={} at={}", fault.number(), fault.at()),
+            Refusal::Book(refusal) => write!(out, "refused={}", refusal.number()),
+            Refusal::OutOfMemory(error) => Err(error.into()),
+        }
+    }
 }
 
-// Says why a roll is refused: the number, the text, and where a word is at fault its place.
-pub fn say_fault(heap: Global, fault: RollFault, out: &mut Vec<u8>) -> Result<(), AllocError> {
-    let number = fault.number();
-    let list = fault.list.number();
-    let text = match fault.at() {
-        Some(at) => format!(in heap; "refused={number} text={list} at={at}")?,
-        None => format!(in heap; "refused={number} text={list}")?,
-    };
-    say(out, text.as_bytes())
+impl From<RollFault> for Refusal<'_> {
+    fn from(fault: RollFault) -> Self {
+        Refusal::Roll(fault)
+    }
+}
+
+impl From<PolicyFault> for Refusal<'_> {
+    fn from(fault: PolicyFault) -> Self {
+        Refusal::Policy(fault)
+    }
+}
+
+impl From<EnterRefusal> for Refusal<'_> {
+    fn from(refusal: EnterRefusal) -> Self {
+        Refusal::Book(refusal)
+    }
+}
+
+impl From<AllocError> for Refusal<'_> {
+    fn from(error: AllocError) -> Self {
+        Refusal::OutOfMemory(error)
+    }
 }

@@ -5,7 +5,7 @@ use roll::list::List;
 use text::pieces::Pieces;
 
 // What is asked of a tie.
-#[derive(Clone, Copy)]
+#[derive(Clone, Copy, Debug, PartialEq, Eq)]
 pub enum TieVerb {
     Enter,
     Strike,
@@ -13,7 +13,7 @@ pub enum TieVerb {
 }
 
 // What is asked of a mark fact.
-#[derive(Clone, Copy)]
+#[derive(Clone, Copy, Debug, PartialEq, Eq)]
 pub enum MarkVerb {
     Set,
     Lift,
@@ -27,18 +27,14 @@ pub enum Question<'a> {
     OfTie(TieVerb, &'a [u8], &'a [u8], &'a [u8]),
     // mark, name
     OfMark(MarkVerb, &'a [u8], &'a [u8]),
-    // label, direction, name, lowest name
+    // label, direction, name, lowest name that may be told
     Next(&'a [u8], Direction, &'a [u8], u8),
-    Counts,
+    Tally,
 }
 
 // What a line asks for.
 #[derive(Clone, Copy)]
 pub enum Order<'a> {
-    // a remark or an empty line
-    Nothing,
-    // no command, or one with the wrong operands
-    Unknown,
     // the text of a list of the next book's roll
     Text(List, &'a [u8]),
     // a list book of so many places
@@ -49,78 +45,75 @@ pub enum Order<'a> {
     Ask(Question<'a>),
 }
 
+// Why a line gives no order: it has no command, or one with the wrong operands.
+#[derive(Clone, Copy, Debug, PartialEq, Eq)]
+pub struct UnknownOrder;
+
 impl<'a> Order<'a> {
-    // The order that a line gives.
-    pub fn parse(line: &'a [u8]) -> Order<'a> {
-        match line {
-            [] => return Order::Nothing,
-            [b'-', b'-', ..] => return Order::Nothing,
-            _ => {}
+    // The order that a line gives; a remark and an empty line give none.
+    pub fn parse(line: &'a [u8]) -> Result<Option<Order<'a>>, UnknownOrder> {
+        if line.is_empty() || line.starts_with(b"--") {
+            return Ok(None);
         }
-        if let Some(text) = text_behind(line, b"names") {
-            return Order::Text(List::Names, text);
+        match of_text(line) {
+            Some(order) => Ok(Some(order)),
+            None => Ok(Some(of_words(line).ok_or(UnknownOrder)?)),
         }
-        if let Some(text) = text_behind(line, b"labels") {
-            return Order::Text(List::Labels, text);
+    }
+}
+
+// An order whose one operand is a text.
+fn of_text<'a>(line: &'a [u8]) -> Option<Order<'a>> {
+    for list in [List::Names, List::Labels, List::Marks] {
+        if let Some(text) = text_behind(line, key(list)) {
+            return Some(Order::Text(list, text));
         }
-        if let Some(text) = text_behind(line, b"marks") {
-            return Order::Text(List::Marks, text);
-        }
-        if let Some(text) = text_behind(line, b"policy") {
-            return Order::Policy(text);
-        }
-        let mut words = Pieces::words(line);
-        match words.next() {
-            Some(command) => of_book(command.bytes, words).unwrap_or(Order::Unknown),
-            None => Order::Nothing,
-        }
+    }
+    Some(Order::Policy(text_behind(line, b"policy")?))
+}
+
+// The command that gives the text of a list.
+fn key(list: List) -> &'static [u8] {
+    match list {
+        List::Names => b"names",
+        List::Labels => b"labels",
+        List::Marks => b"marks",
     }
 }
 
 // What follows the one space behind the key; nothing where the line is the key alone.
 fn text_behind<'a>(line: &'a [u8], key: &[u8]) -> Option<&'a [u8]> {
-    let n = key.len();
-    if line.len() < n || &line[0..n] != key {
-        return None;
-    }
-    match &line[n..] {
-        [] => Some(&line[n..]),
+    let rest = line.strip_prefix(key)?;
+    match rest {
+        [] => Some(rest),
         [b' ', text @ ..] => Some(text),
         _ => None,
     }
 }
 
-// A command that speaks of a book, with its operands.
-fn of_book<'a>(command: &[u8], words: Pieces<'a>) -> Option<Order<'a>> {
-    match command {
+// An order whose operands are words.
+fn of_words<'a>(line: &'a [u8]) -> Option<Order<'a>> {
+    let mut words = Pieces::words(line);
+    match words.next()?.bytes {
         b"enter" => of_tie(TieVerb::Enter, words),
         b"strike" => of_tie(TieVerb::Strike, words),
         b"tie" => of_tie(TieVerb::Ask, words),
         b"set" => of_mark(MarkVerb::Set, words),
         b"lift" => of_mark(MarkVerb::Lift, words),
         b"mark" => of_mark(MarkVerb::Ask, words),
-        _ => of_other(command, words),
-    }
-}
-
-fn of_other<'a>(command: &[u8], words: Pieces<'a>) -> Option<Order<'a>> {
-    match command {
-        b"next" => next_name(words),
+        b"next" => of_next(words),
         b"counts" => {
             end(words)?;
-            Some(Order::Ask(Question::Counts))
+            Some(Order::Ask(Question::Tally))
         }
-        b"book" => make(words),
+        b"book" => of_book(words),
         _ => None,
     }
 }
 
 // Nothing, where no word is left.
-fn end(mut words: Pieces<'_>) -> Option<()> {
-    match words.next() {
-        Some(_) => None,
-        None => Some(()),
-    }
+fn end(words: Pieces<'_>) -> Option<()> {
+    words.is_over().then_some(())
 }
 
 fn of_tie<'a>(verb: TieVerb, mut words: Pieces<'a>) -> Option<Order<'a>> {
@@ -138,24 +131,23 @@ fn of_mark<'a>(verb: MarkVerb, mut words: Pieces<'a>) -> Option<Order<'a>> {
     Some(Order::Ask(Question::OfMark(verb, mark.bytes, name.bytes)))
 }
 
-fn next_name<'a>(mut words: Pieces<'a>) -> Option<Order<'a>> {
+fn of_next<'a>(mut words: Pieces<'a>) -> Option<Order<'a>> {
     let label = words.next()?;
     let way = words.next()?;
     let name = words.next()?;
     let at = words.next()?;
     end(words)?;
-    let dir = match way.bytes {
+    let direction = match way.bytes {
         b"forward" => Direction::Forward,
         b"backward" => Direction::Backward,
         _ => return None,
     };
     let at = byte_number(at.bytes)?;
-    Some(Order::Ask(Question::Next(label.bytes, dir, name.bytes, at)))
+    Some(Order::Ask(Question::Next(label.bytes, direction, name.bytes, at)))
 }
 
-fn make<'a>(mut words: Pieces<'a>) -> Option<Order<'a>> {
-    let kind = words.next()?;
-    match kind.bytes {
+fn of_book<'a>(mut words: Pieces<'a>) -> Option<Order<'a>> {
+    match words.next()?.bytes {
         b"board" => {
             end(words)?;
             Some(Order::OpenBoard)

@@ -1,20 +1,21 @@
 // A session at the console: the texts of the next roll, and the open book with a roll of its own.
-use crate::answer::{say, say_fault, say_policy_fault, say_reply};
+use crate::answer::{Answer, Refusal};
 use crate::order::{Order, Question};
-use crate::resolve::resolve;
 use board_book::board::BoardBook;
-use book::faces::{Keeping, Reading};
+use book::refusal::EnterRefusal;
 use book::tie::Tie;
 use list_book::ListBook;
 use policy_reader::reading::read;
-use requests::request::perform;
+use requests::request::{Reply, Request, perform};
 use roll::list::List;
 use roll::roll::{Roll, RollFault};
 use std::alloc::{AllocError, Global};
+use std::io;
+use std::io::Write;
 
 // The texts of the three lists of a roll.
 #[derive(Drop)]
-pub struct Texts {
+struct Texts {
     names: Vec<u8>,
     labels: Vec<u8>,
     marks: Vec<u8>,
@@ -57,19 +58,34 @@ impl Texts {
     }
 }
 
-// The book that is open, if any, with the texts of its roll.
+// A book of either make.
 #[derive(Drop)]
-pub enum Open {
-    Nothing,
-    List(Texts, ListBook),
-    Board(Texts, BoardBook),
+enum Book {
+    List(ListBook),
+    Board(BoardBook),
+}
+
+impl Book {
+    fn perform(&mut self, request: Request) -> Result<Reply, EnterRefusal> {
+        match self {
+            Book::List(book) => perform(book, request),
+            Book::Board(book) => perform(book, request),
+        }
+    }
+}
+
+// A book that is open, with the texts of its roll.
+#[derive(Drop)]
+struct Open {
+    texts: Texts,
+    book: Book,
 }
 
 #[derive(Drop)]
 pub struct Session {
     heap: Global,
     next: Texts,
-    open: Open,
+    open: Option<Open>,
 }
 
 impl Session {
@@ -78,111 +94,79 @@ impl Session {
         Session {
             heap,
             next: Texts::new(heap),
-            open: Open::Nothing,
+            open: None,
         }
     }
 
     // Adds the answer to a line to the output: one line, or nothing for a remark.
-    pub fn answer(&mut self, line: &[u8], out: &mut Vec<u8>) -> Result<(), AllocError> {
-        match Order::parse(line) {
-            Order::Nothing => return Ok(()),
-            Order::Unknown => {
-                say(out, b"unknown command: ")?;
-                say(out, line)?;
-            }
-            Order::Text(list, text) => {
-                self.next.put(list, text.to_vec(self.heap)?);
-                say(out, b"ok")?;
-            }
-            Order::OpenList(places) => self.open_list(places, out)?,
-            Order::OpenBoard => self.open_board(out)?,
-            Order::Policy(text) => self.read_policy(text, out)?,
-            Order::Ask(question) => self.ask(question, out)?,
+    pub fn answer(&mut self, line: &[u8], out: &mut impl Write) -> io::Result<()> {
+        match self.obey(line) {
+            Ok(None) => return Ok(()),
+            Ok(Some(answer)) => answer.write_to(out)?,
+            Err(refusal) => refusal.write_to(out)?,
         }
-        say(out, b"\n")
+        out.write_all(b"\n")
     }
 
-    // Opens an empty list book of so many places, under the roll of the next texts.
-    fn open_list(&mut self, places: u16, out: &mut Vec<u8>) -> Result<(), AllocError> {
-        match self.next.roll() {
-            Ok(roll) => {
-                let row = vec![in self.heap; Tie {
-                    label: 0,
-                    from: 0,
-                    to: 0
-                }; usize::from(places)]?;
-                let book = ListBook::new(roll.counts(), row);
-                self.open = Open::List(self.next.copy()?, book);
-                say(out, b"ok")
+    // Does what a line orders.
+    fn obey<'a>(&'a mut self, line: &'a [u8]) -> Result<Option<Answer<'a>>, Refusal<'a>> {
+        let Ok(order) = Order::parse(line) else {
+            return Err(Refusal::UnknownCommand(line));
+        };
+        let Some(order) = order else {
+            return Ok(None);
+        };
+        match order {
+            Order::Text(list, text) => self.next.put(list, text.to_vec(self.heap)?),
+            Order::OpenList(places) => {
+                let counts = self.next.roll()?.counts();
+                let row = vec![in self.heap; Tie::default(); usize::from(places)]?;
+                self.open(Book::List(ListBook::new(counts, row)))?;
             }
-            Err(fault) => say_fault(self.heap, fault, out),
-        }
-    }
-
-    // Opens an empty board book.
-    fn open_board(&mut self, out: &mut Vec<u8>) -> Result<(), AllocError> {
-        match self.next.roll() {
-            Ok(roll) => {
-                let counts = roll.counts();
+            Order::OpenBoard => {
+                let counts = self.next.roll()?.counts();
                 let words = vec![in self.heap; 0u64; BoardBook::words_needed(counts)]?;
-                self.open = Open::Board(self.next.copy()?, BoardBook::new(counts, words));
-                say(out, b"ok")
+                self.open(Book::Board(BoardBook::new(counts, words)))?;
             }
-            Err(fault) => say_fault(self.heap, fault, out),
+            Order::Policy(text) => {
+                read(&self.opened()?.texts.roll()?, text)?;
+            }
+            Order::Ask(question) => return Ok(Some(self.ask(question)?)),
         }
+        Ok(Some(Answer::Done))
     }
 
-    // Reads a policy under the roll of the open book.
-    fn read_policy(&self, text: &[u8], out: &mut Vec<u8>) -> Result<(), AllocError> {
-        match &self.open {
-            Open::Nothing => say(out, b"no book"),
-            Open::List(texts, _) => say_policy(self.heap, texts, text, out),
-            Open::Board(texts, _) => say_policy(self.heap, texts, text, out),
-        }
+    // Opens an empty book, under the roll of the next texts.
+    fn open(&mut self, book: Book) -> Result<(), AllocError> {
+        let texts = self.next.copy()?;
+        self.open = Some(Open { texts, book });
+        Ok(())
     }
 
-    // Puts a question to the open book.
-    fn ask(&mut self, question: Question<'_>, out: &mut Vec<u8>) -> Result<(), AllocError> {
+    // The book that is open.
+    fn opened(&mut self) -> Result<&mut Open, Refusal<'static>> {
         match &mut self.open {
-            Open::Nothing => say(out, b"no book"),
-            Open::List(texts, book) => ask_book(self.heap, texts, book, question, out),
-            Open::Board(texts, book) => ask_book(self.heap, texts, book, question, out),
+            Some(open) => Ok(open),
+            None => Err(Refusal::NoBook),
         }
     }
-}
 
-// Says whether a text is a policy under the roll of these texts.
-fn say_policy(
-    heap: Global,
-    texts: &Texts,
-    text: &[u8],
-    out: &mut Vec<u8>,
-) -> Result<(), AllocError> {
-    match texts.roll() {
-        Ok(roll) => match read(&roll, text) {
-            Ok(_) => say(out, b"ok"),
-            Err(fault) => say_policy_fault(heap, fault, out),
-        },
-        Err(fault) => say_fault(heap, fault, out),
-    }
-}
-
-// Puts a question to a book of any make, its words read by the roll of these texts.
-fn ask_book<B: Keeping>(
-    heap: Global,
-    texts: &Texts,
-    book: &mut B,
-    question: Question<'_>,
-    out: &mut Vec<u8>,
-) -> Result<(), AllocError> {
-    match texts.roll() {
-        Ok(roll) => match resolve(question, roll) {
-            Ok(request) => say_reply(heap, roll, perform(book, request), out),
-            Err(word) => {
-                say(out, b"unknown word: ")?;
-                say(out, word)
-            }
-        },
-        Err(fault) => say_fault(heap, fault, out),
+    // Puts a question to the open book, its words read by the book's roll.
+    fn ask<'a>(&'a mut self, question: Question<'a>) -> Result<Answer<'a>, Refusal<'a>> {
+        let Some(open) = &mut self.open else {
+            return Err(Refusal::NoBook);
+        };
+        let roll = open.texts.roll()?;
+        let request = match question.resolve(roll) {
+            Ok(request) => request,
+            Err(word) => return Err(Refusal::UnknownWord(word)),
+        };
+        Ok(match open.book.perform(request)? {
+            Reply::Done => Answer::Done,
+            Reply::Told(there) => Answer::Told(there),
+            Reply::Name(None) => Answer::Name(None),
+            Reply::Name(Some(number)) => Answer::Name(roll.word(List::Names, number)),
+            Reply::Tally(tally) => Answer::Tally(tally),
+        })
     }
 }

@@ -49,7 +49,7 @@ obeyed m (LiftMark g) (tie l f t) v ok s = absurd (grind (arith, s))
 obeyed m (LiftMark g) (mark k n) v ok s = marked_of (mark_within m.counts g) m (at2 m.marked g.mark g.name false) k n ∙ grind (arith, nat_tests, s, ok)
 
 -- a range test that may have passed, and a fact that the call does not speak of
-quiet_tie : (m : Meaning) (u : Tie) (l f t : ℕ) (v w : Bool) → (ranging (ranged w) ≡ Ok tt → cond (eqb u.label l && eqb u.from f && eqb u.to t) (Some v) None ≡ None)
+quiet_tie : (m : Meaning) (u : Tie) (l f t : ℕ) (v w : Bool) → (ranging (ranged w) ≡ Ok tt → cond (eqb u.label l && (eqb u.from f && eqb u.to t)) (Some v) None ≡ None)
     → cond w (at3 m.tied u.label u.from u.to v l f t) (m.tied l f t) ≡ m.tied l f t
 quiet_tie m u l f t v true q = let s = q refl in grind (arith, nat_tests, s)
 quiet_tie m u l f t v false q = refl
