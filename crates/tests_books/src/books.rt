@@ -1,20 +1,16 @@
 // Books at their limits, and the two makes side by side.
-use crate::rolls::count;
 use board_book::board::BoardBook;
 use book::counts::Counts;
 use book::faces::{Keeping, Reading};
-use book::tie::{Direction, Tie};
+use book::mark::MarkFact;
+use book::tie::{Direction, Neighbours, Tie};
 use list_book::ListBook;
-use runs::play::{Call, step};
+use runs::play::{Answer, Call, step};
 use std::alloc::{AllocError, Global};
 
 // An empty list book of so many places.
 fn list(heap: Global, counts: Counts, places: usize) -> Result<ListBook, AllocError> {
-    let row = vec![in heap; Tie {
-        label: 0,
-        from: 0,
-        to: 0
-    }; places]?;
+    let row = vec![in heap; Tie::default(); places]?;
     Ok(ListBook::new(counts, row))
 }
 
@@ -24,71 +20,56 @@ fn board(heap: Global, counts: Counts, words: usize) -> Result<BoardBook, AllocE
     Ok(BoardBook::new(counts, words))
 }
 
-// The number of a check of counts for a list book and for a board of so many words; 0 where it passes.
-fn numbers(names: u8, labels: u8, marks: u8, words: usize) -> (u8, u8) {
-    let counts = Counts {
-        names,
-        labels,
-        marks,
-    };
-    let of_list = match ListBook::check(counts) {
-        Ok(()) => 0,
-        Err(refusal) => refusal.number(),
-    };
-    let of_board = match BoardBook::check(counts, words) {
-        Ok(()) => 0,
-        Err(refusal) => refusal.number(),
-    };
-    (of_list, of_board)
-}
-
-// Whether the checks of both makes answer so.
-fn checked(names: u8, labels: u8, marks: u8, words: usize, of_list: u8, of_board: u8) -> bool {
-    let (a, b) = numbers(names, labels, marks, words);
-    a == of_list && b == of_board
-}
+// Names, labels, marks and words, and the number of the refusal that a check for a list book and for a
+// board of so many words gives, if it refuses.
+const LIMITS: [((u8, u8, u8, usize), Option<u8>, Option<u8>); 12] = [
+    ((1, 0, 0, 0), None, None),
+    ((64, 16, 16, 1024), None, None),
+    ((64, 16, 16, 1023), None, Some(14)),
+    ((0, 0, 0, 0), Some(20), Some(20)),
+    ((65, 0, 0, 0), Some(20), Some(20)),
+    ((1, 17, 0, 1), Some(20), Some(20)),
+    ((1, 0, 17, 0), Some(20), Some(20)),
+    ((255, 255, 255, 0), Some(20), Some(20)),
+    ((8, 1, 0, 1), None, None),
+    ((8, 1, 0, 0), None, Some(14)),
+    ((9, 1, 0, 1), None, Some(14)),
+    ((9, 1, 0, 2), None, None),
+];
 
 // How many of the checks at the limits answer as they should.
-pub fn limits() -> u32 {
-    let table = [
-        checked(1, 0, 0, 0, 0, 0),
-        checked(64, 16, 16, 1024, 0, 0),
-        checked(64, 16, 16, 1023, 0, 14),
-        checked(0, 0, 0, 0, 20, 20),
-        checked(65, 0, 0, 0, 20, 20),
-        checked(1, 17, 0, 1, 20, 20),
-        checked(1, 0, 17, 0, 20, 20),
-        checked(255, 255, 255, 0, 20, 20),
-        checked(8, 1, 0, 1, 0, 0),
-        checked(8, 1, 0, 0, 0, 14),
-        checked(9, 1, 0, 1, 0, 14),
-        checked(9, 1, 0, 2, 0, 0),
-    ];
-    count(&table)
+pub fn limits() -> usize {
+    LIMITS
+        .iter()
+        .filter(|((names, labels, marks, words), of_list, of_board)| {
+            let counts = Counts {
+                names: *names,
+                labels: *labels,
+                marks: *marks,
+            };
+            let list = ListBook::check(counts).err();
+            let board = BoardBook::check(counts, *words).err();
+            list.map(|refusal| refusal.number()) == *of_list
+                && board.map(|refusal| refusal.number()) == *of_board
+        })
+        .count()
 }
 
 // Whether a book is the one that is made after a failed check.
 fn is_least<B: Keeping>(book: &mut B) -> bool {
-    let c = book.counts();
-    let tie = Tie {
-        label: 0,
-        from: 0,
-        to: 0,
-    };
-    let one = c.names == 1 && c.labels == 0 && c.marks == 0 && book.capacity() == 0;
-    one && number(step(book, Call::Enter(tie))) == 1 && number(step(book, Call::SetMark(0, 0))) == 1
+    let tie = Tie::default();
+    let least = book.counts() == Counts::LEAST && book.capacity() == 0;
+    let fact = MarkFact { mark: 0, name: 0 };
+    least && refused(step(book, Call::Enter(tie)), 1) && refused(step(book, Call::SetMark(fact)), 1)
 }
 
-// The number of an answer's refusal, or 0.
-fn number(answer: runs::play::Answer) -> u8 {
-    match answer {
-        Ok(()) => 0,
-        Err(refusal) => refusal.number(),
-    }
+// Whether an answer refuses, with this number.
+fn refused(answer: Answer, number: u8) -> bool {
+    answer.is_err_and(|refusal| refusal.number() == number)
 }
 
 // How many of the makings and fillings come out as they should.
-pub fn fillings(heap: Global) -> Result<u32, AllocError> {
+pub fn fillings(heap: Global) -> Result<usize, AllocError> {
     let two = Counts {
         names: 64,
         labels: 2,
@@ -111,7 +92,7 @@ pub fn fillings(heap: Global) -> Result<u32, AllocError> {
         fills(&mut board(heap, two, 128)?, 8192),
         fills(&mut board(heap, two, 200)?, 8192),
     ];
-    Ok(count(&table))
+    Ok(table.iter().filter(|passes| **passes).count())
 }
 
 // Whether a book of 64 names and 2 labels has this capacity, takes so many ties in order, and refuses the
@@ -124,8 +105,8 @@ fn fills<B: Keeping>(book: &mut B, capacity: usize) -> bool {
         for from in 0..64 {
             for to in 0..64 {
                 let full = book.tie_count() >= capacity;
-                let answer = number(step(book, Call::Enter(Tie { label, from, to })));
-                if full && answer != 2 || !full && answer != 0 {
+                let answer = step(book, Call::Enter(Tie { label, from, to }));
+                if full && !refused(answer, 2) || !full && answer.is_err() {
                     return false;
                 }
             }
@@ -136,11 +117,7 @@ fn fills<B: Keeping>(book: &mut B, capacity: usize) -> bool {
 
 // Whether a struck tie frees its place for one other.
 fn refills<B: Keeping>(book: &mut B, capacity: usize) -> bool {
-    let first = Tie {
-        label: 0,
-        from: 0,
-        to: 0,
-    };
+    let first = Tie::default();
     let last = Tie {
         label: 1,
         from: 63,
@@ -149,9 +126,9 @@ fn refills<B: Keeping>(book: &mut B, capacity: usize) -> bool {
     if capacity == 0 || capacity == 8192 {
         return true;
     }
-    let struck = number(step(book, Call::Strike(first))) == 0;
-    let entered = number(step(book, Call::Enter(last))) == 0;
-    struck && entered && number(step(book, Call::Enter(first))) == 2
+    let struck = step(book, Call::Strike(first)).is_ok();
+    let entered = step(book, Call::Enter(last)).is_ok();
+    struck && entered && refused(step(book, Call::Enter(first)), 2)
 }
 
 // The next number of a fixed sequence that looks random.
@@ -165,16 +142,21 @@ fn call_of(seed: u64) -> Call {
     let label = ((seed >> 33) % 3) as u8;
     let from = ((seed >> 37) % 7) as u8;
     let to = ((seed >> 43) % 7) as u8;
+    let tie = Tie { label, from, to };
+    let fact = MarkFact {
+        mark: label,
+        name: from,
+    };
     match (seed >> 60) & 3 {
-        0 => Call::Strike(Tie { label, from, to }),
-        1 => Call::SetMark(label, from),
-        2 => Call::LiftMark(label, from),
-        _ => Call::Enter(Tie { label, from, to }),
+        0 => Call::Strike(tie),
+        1 => Call::SetMark(fact),
+        2 => Call::LiftMark(fact),
+        _ => Call::Enter(tie),
     }
 }
 
 // How many of 3,000 calls a list book and a board book answer alike, and hold alike after each.
-pub fn same_answers(heap: Global) -> Result<u32, AllocError> {
+pub fn same_answers(heap: Global) -> Result<usize, AllocError> {
     let counts = Counts {
         names: 6,
         labels: 2,
@@ -183,7 +165,7 @@ pub fn same_answers(heap: Global) -> Result<u32, AllocError> {
     let mut a = list(heap, counts, 72)?;
     let mut b = board(heap, counts, 2)?;
     let mut seed = 7;
-    let mut alike: u32 = 0;
+    let mut alike: usize = 0;
     for _ in 0..3000 {
         seed = shuffled(seed);
         let call = call_of(seed);
@@ -197,28 +179,26 @@ pub fn same_answers(heap: Global) -> Result<u32, AllocError> {
 
 // Whether two books of 6 names, 2 labels and 2 marks answer every question alike, out of range too.
 fn agree<A: Reading, B: Reading>(a: &A, b: &B) -> bool {
-    for label in 0..3 {
-        for from in 0..7 {
-            if a.has_mark(label, from) != b.has_mark(label, from) {
-                return false;
-            }
-            for to in 0..8 {
-                let tie = Tie { label, from, to };
-                if a.has_tie(tie) != b.has_tie(tie) {
-                    return false;
-                }
-                if a.next(label, Direction::Forward, from, to)
-                    != b.next(label, Direction::Forward, from, to)
-                {
-                    return false;
-                }
-                if a.next(label, Direction::Backward, from, to)
-                    != b.next(label, Direction::Backward, from, to)
-                {
-                    return false;
-                }
-            }
-        }
-    }
-    true
+    (0..3).all(|label| (0..7).all(|name| agree_at(a, b, label, name)))
+}
+
+// Whether they do for this label or mark and this name.
+fn agree_at<A: Reading, B: Reading>(a: &A, b: &B, label: u8, name: u8) -> bool {
+    let fact = MarkFact { mark: label, name };
+    let forward = Neighbours {
+        label,
+        direction: Direction::Forward,
+        name,
+    };
+    let backward = Neighbours {
+        direction: Direction::Backward,
+        ..forward
+    };
+    a.has_mark(fact) == b.has_mark(fact)
+        && (0..8).all(|other| {
+            let tie = forward.tie(other);
+            a.has_tie(tie) == b.has_tie(tie)
+                && a.next(forward, other) == b.next(forward, other)
+                && a.next(backward, other) == b.next(backward, other)
+        })
 }
