@@ -1,6 +1,6 @@
 -- The bits of a word, and of a row of words.
 use Rattle.std.proofs.Common.{◌≡◌, ℕ, ◌/◌, ◌%◌, ◌^◌, ◌<◌, ◌≤◌, false, cond, not, eqb, List, length, get_or, set, replicate, sym, ap, ◌∙◌, subst, ⊎_elim, arith}
-use lib.Bits.{bit_and, bit_xor}
+use Rattle.std.specs.Int.Bits.{bit_and, bit_xor}
 use Rattle.std.specs.Int.{bit_at}
 use Rattle.std.proofs.lemmas.Bool.Decides.{nat_tests}
 use Rattle.std.proofs.lemmas.Bool.{cases_eq, cases_lt}

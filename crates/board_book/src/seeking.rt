@@ -10,7 +10,7 @@ use bits::gather::gather;
 use book::tie::{Direction, Neighbours};
 
 impl BoardBook {
-    // The lowest of the neighbours forward that is not below `at`, by their bits at once.
+    // The lowest of the neighbours that is not below `at`, forward, where their bits stand side by side.
     pub(crate) fn next_to(&self, of: Neighbours, at: u8) -> Option<u8>
         requires forward { of.direction ≡ Direction.Forward }
         requires within { next_within (counts_kept self.now.marks) of at ≡ true }
@@ -21,7 +21,7 @@ impl BoardBook {
         (zeros < left).then_some(at + zeros)
     }
 
-    // The lowest of the neighbours that is not below `at`, one after the other; in either direction.
+    // The lowest of the neighbours that is not below `at`, in either direction, bit by bit.
     pub(crate) fn next_from(&self, of: Neighbours, at: u8) -> Option<u8>
         requires { next_within (counts_kept self.now.marks) of at ≡ true }
         ensures { Lowest (joins (board_meaning self.now) of) at result }
