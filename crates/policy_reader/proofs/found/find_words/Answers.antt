@@ -9,7 +9,7 @@ pub returns-then-len-eq64 : goal.returns-then-len-eq64
 returns-then-len-eq64 c =
     let ws = text_words c.args.text.now in
     let n = c.loop-piece.len in
-    let t = c.in-Some.ensures in
+    let t = c.in-Some.ensures.steps in
     let i = c.loop-piece.invariant in
     record {
       few = i.0;
@@ -23,7 +23,7 @@ pub returns-in-Err : goal.returns-in-Err
 returns-in-Err c =
     let ws = text_words c.args.text.now in
     let n = c.loop-piece.len in
-    let t = c.in-Some.ensures in
+    let t = c.in-Some.ensures.steps in
     let i = c.loop-piece.invariant in
     let f = c.in-Err.ensures in
     record {
@@ -43,7 +43,7 @@ pub loop-piece-preserved : goal.loop-piece-preserved
 loop-piece-preserved c =
     let ws = text_words c.args.text.now in
     let n = c.loop-piece.len in
-    let t = c.in-Some.ensures in
+    let t = c.in-Some.ensures.steps in
     let i = c.loop-piece.invariant in
     let there = took_there ws n t i.4 i.5 in (
       omega (arith, i.0, c.if-len-eq64.false),
@@ -57,4 +57,4 @@ loop-piece-preserved c =
 pub returns : goal.returns
 returns c =
     let i = c.loop-piece.invariant in
-    record { few = i.0; long = i.1; within = i.2; spelled = i.3; stops = omega (arith, i.2, step_end c.loop-piece.len (text_words c.args.text.now) _ i.4 c.in_default.ensures.0) }
+    record { few = i.0; long = i.1; within = i.2; spelled = i.3; stops = omega (arith, i.2, step_end c.loop-piece.len (text_words c.args.text.now) _ i.4 c.in_default.ensures.steps.0) }
