@@ -58,9 +58,6 @@ impl Counts {
     pub fn or_least(self) -> Counts
         ensures { result ≡ made_counts self }
     {
-        match self.check() {
-            Ok(()) => self,
-            Err(_) => Counts::LEAST,
-        }
+        self.check().map_or(Counts::LEAST, |()| self)
     }
 }

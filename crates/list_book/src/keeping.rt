@@ -10,8 +10,7 @@ use book::refusal::{EnterRefusal, RangeRefusal};
 use book::tie::Tie;
 
 // Each call says what the row is after it (`row`): entering and striking write at one place below the
-// capacity, and only where they alter the ties; no other call writes. The book has nothing to tell beside
-// its meaning and its row, so that `held` says nothing.
+// capacity, and only where they alter the ties; no other call writes.
 impl Keeping for ListBook {
     fn capacity(&self) -> usize {
         self.limit
@@ -20,7 +19,6 @@ impl Keeping for ListBook {
     fn enter(&mut self, tie: Tie) -> Result<(), EnterRefusal>
         ensures answer { result ≡ entering (list_meaning self.old) tie }
         ensures after { list_meaning self.new ≡ entered (list_meaning self.old) tie }
-        ensures held { Unit {0} → Unit {0} }
         ensures row { row_items self.new ≡ row_entered self.old tie }
     {
         self.counts().check_tie(tie)?;
@@ -34,7 +32,6 @@ impl Keeping for ListBook {
     fn strike(&mut self, tie: Tie) -> Result<(), RangeRefusal>
         ensures answer { result ≡ striking (list_meaning self.old) tie }
         ensures after { list_meaning self.new ≡ struck (list_meaning self.old) tie }
-        ensures held { Unit {0} → Unit {0} }
         ensures row { RowStruck self.old tie (row_items self.new) }
     {
         self.counts().check_tie(tie)?;
@@ -49,7 +46,6 @@ impl Keeping for ListBook {
     fn set_mark(&mut self, fact: MarkFact) -> Result<(), RangeRefusal>
         ensures answer { result ≡ marking (list_meaning self.old) fact }
         ensures after { list_meaning self.new ≡ marked_as (list_meaning self.old) fact true }
-        ensures held { Unit {0} → Unit {0} }
         ensures row { row_items self.new ≡ row_items self.old }
     {
         self.marks.put_mark(fact, true)
@@ -58,7 +54,6 @@ impl Keeping for ListBook {
     fn lift_mark(&mut self, fact: MarkFact) -> Result<(), RangeRefusal>
         ensures answer { result ≡ marking (list_meaning self.old) fact }
         ensures after { list_meaning self.new ≡ marked_as (list_meaning self.old) fact false }
-        ensures held { Unit {0} → Unit {0} }
         ensures row { row_items self.new ≡ row_items self.old }
     {
         self.marks.put_mark(fact, false)

@@ -40,10 +40,7 @@ impl ListBook {
     fn limit_of(counts: Counts, places: usize) -> usize
         ensures { result ≡ (made_meaning counts places).capacity }
     {
-        match Self::check(counts) {
-            Ok(()) => places.min(Self::MOST_TIES),
-            Err(_) => 0,
-        }
+        Self::check(counts).map_or(0, |()| places.min(Self::MOST_TIES))
     }
 
     // Takes the book apart and gives its row back, whole and as it stands. The first places, as many as

@@ -34,7 +34,6 @@ returns-in_err-add c =
     record {
       answer = let r = c.from_residual-in_err-add.ensures.1 in grind (arith, r, no);
       after = ap (λ ys. with_ties m (listed ys)) e ∙ entered_refused m t Full no;
-      held = λ u. u;
       row = row_same b t _ ws lent c.add.auto.row c.in_err-add.ensures.2 ∙ sym (left_refused b t Full no);
     }
 
@@ -67,7 +66,6 @@ returns-then-is_none c =
     record {
       answer = sym ok;
       after = entered_by m t _ ok (λ x y z. ap (λ ys. listed ys x y z) e ∙ placed (counts_kept b.marks) (row_ties b) t x y z);
-      held = λ u. u;
       row = row_grew b t _ ws lent c.add.auto.row put.1 ∙ sym (written b t ok none);
     }
 
@@ -95,6 +93,5 @@ returns-else-is_none c =
     record {
       answer = sym ok;
       after = ap (λ ys. with_ties m (listed ys)) e ∙ entered-there m t ok there;
-      held = λ u. u;
       row = row_same b t _ ws lent c.add.auto.row stood.2 ∙ sym (left_there b t there);
     }

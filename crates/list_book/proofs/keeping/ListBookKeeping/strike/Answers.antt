@@ -34,7 +34,6 @@ returns-in-Some c =
     record {
       answer = sym (ap ranged w);
       after = struck_by m t _ w (removed n (row_ties b) t b.once _ moved);
-      held = λ u. u;
       row = taken_out b t c.index-last.result.now c.in-Some.i found c.index-last.ensures;
     }
 
@@ -46,4 +45,4 @@ returns-in_default c =
     let w = tie_in (counts_kept b.marks) _ t c.counts.ensures c.in_ok-check_tie.ensures in
     let none = absent_times (row_ties b) t (subst (λ ys. Finds same_tie ys t None) c.ties.ensures c.in_default.ensures) in
     let absent : has m t ≡ false = grind (arith, nat_tests, none) in
-    record { answer = sym (ap ranged w); after = struck-absent m t w absent; held = λ u. u; row = left_absent b t absent }
+    record { answer = sym (ap ranged w); after = struck-absent m t w absent; row = left_absent b t absent }
