@@ -49,14 +49,14 @@ fine_more w ws n h hs zero lt = h
 fine_more w ws n h hs (suc k) lt = hs k (omega arith)
 
 -- a fault at words of which the first begins at the byte `at`
-record WrongFrom (at : ℕ) (ws : Seq (Seq ℕ)) (f : WordFault) : Type 0 where
+record WrongFrom (at : ℕ) (ws : Seq (Seq ℕ)) (f : WordFault WordCause) : Type 0 where
   pub place : ℕ
   pub there : place < length ws
   pub before : (k : ℕ) → k < place → Fine (get_or ws k [])
   pub here : Wrong (get_or ws place []) f.cause
   pub starts : f.at ≡ at + start_of place ws
 
-wrong_head : (at : ℕ) (w : Seq ℕ) (ws : Seq (Seq ℕ)) (c : WordCause) (f : WordFault) → cause_of w ≡ Some c → ◌≡◌ {A = WordFault} record { cause = c; at = at } f → WrongFrom at (w ∷ ws) f
+wrong_head : (at : ℕ) (w : Seq ℕ) (ws : Seq (Seq ℕ)) (c : WordCause) (f : WordFault WordCause) → cause_of w ≡ Some c → ◌≡◌ {A = WordFault WordCause} record { cause = c; at = at } f → WrongFrom at (w ∷ ws) f
 wrong_head at w ws c f e is = record {
   place = 0;
   there = omega arith;
@@ -65,7 +65,7 @@ wrong_head at w ws c f e is = record {
   starts = sym (ap (λ x. x.at) is) ∙ sym (add-zero at);
 }
 
-wrong_tail : (at : ℕ) (w : Seq ℕ) (ws : Seq (Seq ℕ)) (f : WordFault) → cause_of w ≡ None → WrongFrom (at + length w + 1) ws f → WrongFrom at (w ∷ ws) f
+wrong_tail : (at : ℕ) (w : Seq ℕ) (ws : Seq (Seq ℕ)) (f : WordFault WordCause) → cause_of w ≡ None → WrongFrom (at + length w + 1) ws f → WrongFrom at (w ∷ ws) f
 wrong_tail at w ws f e r = record {
   place = suc r.place;
   there = omega (arith, r.there);
@@ -74,7 +74,7 @@ wrong_tail at w ws f e r = record {
   starts = r.starts ∙ omega arith;
 }
 
-wrong_from : (ws : Seq (Seq ℕ)) (at : ℕ) (f : WordFault) → first_fault at ws ≡ Some f → WrongFrom at ws f
+wrong_from : (ws : Seq (Seq ℕ)) (at : ℕ) (f : WordFault WordCause) → first_fault at ws ≡ Some f → WrongFrom at ws f
 wrong_from [] at f e = absurd (none_some f e)
 wrong_from (w ∷ ws) at f e =
     elim (cause_cases (cause_of w)) [
@@ -82,12 +82,12 @@ wrong_from (w ∷ ws) at f e =
       | inr s ↦ wrong_head at w ws s.0 f s.1 (some_is _ _ (sym (fault_here at (w ∷ ws) ws w s.0 refl s.1) ∙ e))
     ]
 
-first_wrong : (ws : Seq (Seq ℕ)) (f : WordFault) → first_fault 0 ws ≡ Some f → FirstWrong ws f
+first_wrong : (ws : Seq (Seq ℕ)) (f : WordFault WordCause) → first_fault 0 ws ≡ Some f → FirstWrong ws f
 first_wrong ws f e =
     let r = wrong_from ws 0 f e in
     record { place = r.place; there = r.there; before = r.before; here = r.here; starts = r.starts ∙ omega arith }
 
-wrong_first : (ws : Seq (Seq ℕ)) (place at : ℕ) (f : WordFault) → place < length ws → ((k : ℕ) → k < place → Fine (get_or ws k [])) → Wrong (get_or ws place []) f.cause → f.at ≡ at + start_of place ws → first_fault at ws ≡ Some f
+wrong_first : (ws : Seq (Seq ℕ)) (place at : ℕ) (f : WordFault WordCause) → place < length ws → ((k : ℕ) → k < place → Fine (get_or ws k [])) → Wrong (get_or ws place []) f.cause → f.at ≡ at + start_of place ws → first_fault at ws ≡ Some f
 wrong_first [] place at f lt before here starts = absurd (omega arith)
 wrong_first (w ∷ ws) zero at f lt before here starts =
     fault_here at (w ∷ ws) ws w f.cause refl (wrong_cause w f.cause here) ∙ ap (λ n. Some record { cause = f.cause; at = n }) (sym (starts ∙ add-zero at))
@@ -155,7 +155,7 @@ numbered_all list t h = take_all 64 (words t) (few list (length (words t)) h)
 decides_together : (list : List) (ws : Seq (Seq ℕ)) → Decides (within (alone list (length ws)) && distinct ws) (Within (alone list (length ws)) × Distinct ws)
 decides_together list ws = Decides-and _ _ (decides_within (alone list (length ws))) (decides_distinct ws)
 
-told_by : (list : List) (ws : Seq (Seq ℕ)) (o : Option WordFault) (b : Bool) → first_fault 0 ws ≡ o → Decides b (Within (alone list (length ws)) × Distinct ws) → ListTold list ws (fault_then o b)
+told_by : (list : List) (ws : Seq (Seq ℕ)) (o : Option (WordFault WordCause)) (b : Bool) → first_fault 0 ws ≡ o → Decides b (Within (alone list (length ws)) × Distinct ws) → ListTold list ws (fault_then o b)
 told_by list ws (Some f) b e d = first_wrong ws f e
 told_by list ws None true e d = record { fine = each_fine ws 0 e; within = (d.0 refl).0; apart = (d.0 refl).1 }
 told_by list ws None false e d = record { fine = each_fine ws 0 e; not_both = λ w a. false≢true (d.1 (w, a)) }
@@ -167,7 +167,7 @@ refuted : (b : Bool) → (b ≡ true → ⊥) → b ≡ false
 refuted true h = absurd (h refl)
 refuted false h = refl
 
-faulty : (list : List) (ws : Seq (Seq ℕ)) (o : Option WordFault) (b : Bool) → first_fault 0 ws ≡ o → within (alone list (length ws)) && distinct ws ≡ b → fault_then o b ≡ list_fault list ws
+faulty : (list : List) (ws : Seq (Seq ℕ)) (o : Option (WordFault WordCause)) (b : Bool) → first_fault 0 ws ≡ o → within (alone list (length ws)) && distinct ws ≡ b → fault_then o b ≡ list_fault list ws
 faulty list ws o b e h = ap (λ x. fault_then x b) (sym e) ∙ ap (fault_then (first_fault 0 ws)) (sym h)
 
 list_only : (list : List) (ws : Seq (Seq ℕ)) (x : Option ListFault) → ListTold list ws x → x ≡ list_fault list ws
@@ -182,7 +182,7 @@ list_as_told list ws x e = (subst (ListTold list ws) (sym e) (list_told list ws)
 
 -- what the check of a list finds
 
-pub word_fault : (list : List) (ws : Seq (Seq ℕ)) (f : WordFault) → first_fault 0 ws ≡ Some f → Some (Word f) ≡ list_fault list ws
+pub word_fault : (list : List) (ws : Seq (Seq ℕ)) (f : WordFault WordCause) → first_fault 0 ws ≡ Some f → Some (Word f) ≡ list_fault list ws
 word_fault list ws f e = faulty list ws (Some f) _ e refl
 
 err_test : (b : Bool) → is_err {T = Unit {0}} (cond b (Ok tt) (Err OutsideLimits)) ≡ not b

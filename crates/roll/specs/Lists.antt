@@ -42,7 +42,7 @@ pub record Good (list : List) (ws : Seq (Seq ℕ)) : Type 0 where
   pub apart : Distinct ws
 
 -- the fault f is that of the first word that is not fine, and tells where that word begins
-pub record FirstWrong (ws : Seq (Seq ℕ)) (f : WordFault) : Type 0 where
+pub record FirstWrong (ws : Seq (Seq ℕ)) (f : WordFault WordCause) : Type 0 where
   pub place : ℕ
   pub there : place < length ws
   pub before : (k : ℕ) → k < place → Fine (slice_index_or ws k [])
@@ -63,12 +63,12 @@ ListTold list ws (Some CountOrRepeat) = WrongTogether list ws
 -- The same as a function.
 
 -- a fault at the byte `at`, else a later one
-abbrev pub fault_at : ℕ → Option WordCause → Option WordFault → Option WordFault
+abbrev pub fault_at : ℕ → Option WordCause → Option (WordFault WordCause) → Option (WordFault WordCause)
 fault_at at (Some c) later = Some record { cause = c; at = at }
 fault_at at None later = later
 
 -- the first faulty one of words of which the first begins at the byte `at`
-abbrev pub first_fault : ℕ → Seq (Seq ℕ) → Option WordFault
+abbrev pub first_fault : ℕ → Seq (Seq ℕ) → Option (WordFault WordCause)
 first_fault at [] = None
 first_fault at (w ∷ ws) = fault_at at (cause_of w) (first_fault (at + length w + 1) ws)
 
@@ -83,7 +83,7 @@ distinct [] = true
 distinct (w ∷ ws) = absent (place_of w ws) && distinct ws
 
 -- the first faulty word decides, then the words together
-abbrev pub fault_then : Option WordFault → Bool → Option ListFault
+abbrev pub fault_then : Option (WordFault WordCause) → Bool → Option ListFault
 fault_then (Some f) b = Some (Word f)
 fault_then None true = None
 fault_then None false = Some CountOrRepeat

@@ -9,7 +9,7 @@ ghost use Rattle.roll.specs.Lists.{alone, first_fault, list_fault, ListTold};
 use crate::lookup::{count_in, is_distinct};
 use book::counts::Counts;
 use text::pieces::Pieces;
-use text::word::{WordFault, cause_of};
+use text::word::{WordCause, WordFault, cause_of};
 
 // Which of the three lists of a roll.
 #[derive(Clone, Copy, Debug, PartialEq, Eq)]
@@ -23,7 +23,7 @@ pub enum List {
 #[derive(Clone, Copy, Debug, PartialEq, Eq)]
 pub enum ListFault {
     // 4 or 5: a word is faulty by itself
-    Word(WordFault),
+    Word(WordFault<WordCause>),
     // 20: the count of words is outside its limits, or a word comes twice
     CountOrRepeat,
 }
@@ -51,7 +51,7 @@ impl ListFault {
 }
 
 // The first faulty word of a text, if there is one.
-fn first_fault(text: &[u8]) -> Option<WordFault>
+fn first_fault(text: &[u8]) -> Option<WordFault<WordCause>>
     ensures { result ≡ first_fault 0 (words text.now) }
 {
     let mut words = Pieces::words(text);

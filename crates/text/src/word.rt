@@ -12,8 +12,8 @@ pub enum WordCause {
 
 // A faulty word of a text: what is wrong with it, and the byte offset at which it begins.
 #[derive(Clone, Copy, Debug, PartialEq, Eq)]
-pub struct WordFault {
-    pub cause: WordCause,
+pub struct WordFault<C> {
+    pub cause: C,
     pub at: usize,
 }
 
