@@ -1,5 +1,3 @@
-pub mod Bytes
-pub mod Operands
 pub mod Finding
 pub mod Telling
 pub mod OneWord

@@ -14,7 +14,7 @@ use Rattle.policy_words.specs.declared.word.Word.{Word}
 use Rattle.policy_words.specs.declared.word.Word.TheVariants as W
 use Rattle.policy_reader.specs.Token.{Sign, mark, Unsigned}
 use Rattle.policy_reader.specs.Token.{Sign as S}
-use Rattle.policy_reader.specs.Spell.{Numbered, Operand, sign_of, Spells, bare, Fit, Listed, Breaks, Wrong}
+use Rattle.policy_reader.specs.Spell.{Numbered, IsOperand, sign_of, Spells, bare, Fit, Listed, Breaks, Wrong}
 use Rattle.policy_reader.specs.declared.fault.Cause.{Cause}
 use Rattle.policy_reader.specs.declared.fault.Cause.TheVariants as C
 
@@ -88,7 +88,7 @@ letter_back L.A = refl
 letter_back L.B = refl
 
 number_is : (r : Roll) (list : Which) (o : List ℕ) (n : ℕ) → Numbered r list o n → n ≡ number_by r list o
-number_is r list o n h = sym (ap (λ x. unwrap_or x 0) h.1)
+number_is r list o n h = sym (ap (λ x. unwrap_or x 0) h.is)
 
 letter_is : (v : Letter) (o : List ℕ) → o ≡ letter_text v → v ≡ letter_by o
 letter_is v o h = sym (ap letter_by h ∙ letter_back v)
@@ -110,7 +110,7 @@ word_by r S.Seq o = W.Seq
 word_by r S.Plus o = W.Plus
 word_by r S.Stay o = W.Stay
 
-made_by : (r : Roll) (w : Word) (o : List ℕ) → Operand r w o → w ≡ word_by r (sign_of w) o
+made_by : (r : Roll) (w : Word) (o : List ℕ) → IsOperand r w o → w ≡ word_by r (sign_of w) o
 made_by r (W.Name n) o h = ap W.Name (number_is r Names o n h)
 made_by r (W.Letter v) o h = ap W.Letter (letter_is v o h)
 made_by r (W.Mark n) o h = ap W.Mark (number_is r Marks o n h)
@@ -148,19 +148,19 @@ good_letter v o h = subst (Good false) (sym h) (plain_letter v)
 good_bare : (o : List ℕ) → o ≡ [] → Good true o
 good_bare o h = (subst Plain (sym h) ((decides_plain []).0 refl), h)
 
-good_operand : (r : Roll) (w : Word) (o : List ℕ) → Operand r w o → Good (bare (sign_of w)) o
-good_operand r (W.Name n) o h = (h.0.0, h.0.1)
+good_operand : (r : Roll) (w : Word) (o : List ℕ) → IsOperand r w o → Good (bare (sign_of w)) o
+good_operand r (W.Name n) o h = (h.fine.0, h.fine.1)
 good_operand r (W.Letter v) o h = good_letter v o h
-good_operand r (W.Mark n) o h = (h.0.0, h.0.1)
+good_operand r (W.Mark n) o h = (h.fine.0, h.fine.1)
 good_operand r W.Not o h = good_bare o h
 good_operand r W.And o h = good_bare o h
 good_operand r W.Or o h = good_bare o h
 good_operand r (W.AtLetter v) o h = good_letter v o h
-good_operand r (W.AtName n) o h = (h.0.0, h.0.1)
+good_operand r (W.AtName n) o h = (h.fine.0, h.fine.1)
 good_operand r (W.Bind v) o h = good_letter v o h.1
 good_operand r W.Follow o h = good_bare o h
-good_operand r (W.Forward n) o h = (h.0.0, h.0.1)
-good_operand r (W.Backward n) o h = (h.0.0, h.0.1)
+good_operand r (W.Forward n) o h = (h.fine.0, h.fine.1)
+good_operand r (W.Backward n) o h = (h.fine.0, h.fine.1)
 good_operand r W.Seq o h = good_bare o h
 good_operand r W.Plus o h = good_bare o h
 good_operand r W.Stay o h = good_bare o h
@@ -185,7 +185,7 @@ wrong_spells r b c w x y =
       | inl u ↦ unsigned_cut b c (sign_of w) y.0 y.1 u
       | inr k ↦
           let m = same_cut (sign_of w) k.0 y.0 k.1 (sym y.1 ∙ k.2) in
-          let op : Operand r w k.1 = subst (Operand r w) m.1 y.2 in
+          let op : IsOperand r w k.1 = subst (IsOperand r w) m.1 y.2 in
           good_breaks (bare k.0) k.1 (Listed r k.0 k.1) c (subst (λ s. Good (bare s) k.1) m.0 (good_operand r w k.1 op)) (w, m.0, op) k.3
     ]
 

@@ -2,6 +2,7 @@
 use Rattle.std.proofs.Common.{◌≡◌, ℕ, zero, suc, ◌-◌, ◌<◌, ◌⊎◌, List, [], ◌∷◌, length, get_or, take, Ok, Err, Result, sym, refl, ap, subst, inl, inr, arith, MatchResult}
 use Rattle.std.proofs.lemmas.List.{take_more, take_all, get_or-take, length-take-le, take-take}
 use Rattle.text.specs.Text.{words as text_words, start_of}
+use Rattle.text.specs.declared.word.WordFault.{WordFault}
 use Rattle.roll.specs.declared.roll.Roll.{Roll}
 use Rattle.policy_words.specs.Tree.{Formula, words, Whole, Begins, Unfinished, Allowed}
 use Rattle.policy_words.specs.declared.shape.ShapeFault.{ShapeFault}
@@ -14,14 +15,14 @@ use Rattle.policy.specs.declared.fault.WordsFault.{WordsFault}
 use Rattle.policy.specs.declared.fault.WordsFault.TheVariants as F
 use Rattle.policy.specs.declared.policy.Policy.{Policy}
 use Rattle.policy.proofs.Places.{loose_below, stray_below}
-use Rattle.policy_reader.specs.Spell.{Spells, Operand}
+use Rattle.policy_reader.specs.Spell.{Spells, IsOperand}
 use Rattle.policy_reader.specs.Told.{EachSpells, Spelled, Reaches, Told, Gave}
 use Rattle.policy_reader.specs.Found.{Finds, Stops}
 use Rattle.policy_reader.specs.Ends.{after_fault, short_fault, ShapeRefused, Refused}
+use Rattle.policy_reader.specs.declared.fault.Cause.{Cause}
 use Rattle.policy_reader.specs.declared.found.Found.{Found}
 use Rattle.policy_reader.specs.declared.found.Rest.{Rest}
 use Rattle.policy_reader.specs.declared.found.Rest.TheVariants.{Over, More}
-use Rattle.policy_reader.specs.declared.fault.WordFault.{WordFault}
 use Rattle.policy_reader.specs.declared.fault.PolicyFault.{PolicyFault}
 use Rattle.policy_reader.specs.declared.fault.PolicyFault.TheVariants as P
 
@@ -45,19 +46,19 @@ each_at r (v ∷ vs) [] k h lt = absurd h
 each_at r (v ∷ vs) (b ∷ bs) zero h lt = h.0
 each_at r (v ∷ vs) (b ∷ bs) (suc k) h lt = each_at r vs bs k h.1 (omega arith)
 
-operand-allowed : (r : Roll) (w : Word) (o : List ℕ) → Operand r w o → Allowed w
-operand-allowed r (W.Name n) o h = h.2
+operand-allowed : (r : Roll) (w : Word) (o : List ℕ) → IsOperand r w o → Allowed w
+operand-allowed r (W.Name n) o h = h.few
 operand-allowed r (W.Letter v) o h = tt
-operand-allowed r (W.Mark n) o h = h.2
+operand-allowed r (W.Mark n) o h = h.few
 operand-allowed r W.Not o h = tt
 operand-allowed r W.And o h = tt
 operand-allowed r W.Or o h = tt
 operand-allowed r (W.AtLetter v) o h = tt
-operand-allowed r (W.AtName n) o h = h.2
+operand-allowed r (W.AtName n) o h = h.few
 operand-allowed r (W.Bind v) o h = h.0
 operand-allowed r W.Follow o h = tt
-operand-allowed r (W.Forward n) o h = h.2
-operand-allowed r (W.Backward n) o h = h.2
+operand-allowed r (W.Forward n) o h = h.few
+operand-allowed r (W.Backward n) o h = h.few
 operand-allowed r W.Seq o h = tt
 operand-allowed r W.Plus o h = tt
 operand-allowed r W.Stay o h = tt
@@ -96,7 +97,7 @@ module _ (r : Roll) (t : List ℕ) (x : Found) (fd : Finds r t x) where
   to_err e res h told = (Err e, subst (λ z. Gave z (Err e)) (sym h) refl, told)
 
   -- words that are a whole formula, where the text goes on
-  whole_then : (stop : Result Rest WordFault) → Stops r ws x.len stop → Whole vs → (e : PolicyFault) → after_fault stop ≡ Err e → Told r t (Err e)
+  whole_then : (stop : Result Rest (WordFault Cause)) → Stops r ws x.len stop → Whole vs → (e : PolicyFault) → after_fault stop ≡ Err e → Told r t (Err e)
   whole_then (Ok Over) s w e h = let z : ◌≡◌ {A = ℕ} 0 1 = cc in absurd (omega arith)
   whole_then (Ok (More at)) s w e h =
       let same : P.After at ≡ e = cc in
@@ -105,7 +106,7 @@ module _ (r : Roll) (t : List ℕ) (x : Found) (fd : Finds r t x) where
       let same : P.After f.at ≡ e = cc in
       subst (λ y. Told r t (Err y)) same (x.len, vs, reach_all f.at s.0 s.2, fd.few, w)
 
-  whole_end : (stop : Result Rest WordFault) → Stops r ws x.len stop → after_fault stop ≡ Ok tt → x.len ≡ length ws
+  whole_end : (stop : Result Rest (WordFault Cause)) → Stops r ws x.len stop → after_fault stop ≡ Ok tt → x.len ≡ length ws
   whole_end (Ok Over) s h = s
   whole_end (Ok (More at)) s h = let z : ◌≡◌ {A = ℕ} 0 1 = cc in absurd (omega arith)
   whole_end (Err f) s h = let z : ◌≡◌ {A = ℕ} 0 1 = cc in absurd (omega arith)
@@ -114,7 +115,7 @@ module _ (r : Roll) (t : List ℕ) (x : Found) (fd : Finds r t x) where
   spelled_end f e h = (subst (λ l. EachSpells r l ws) (sym e) (all_spelled h), omega (arith, fd.few))
 
   -- words that begin a formula that has more
-  open_end : (stop : Result Rest WordFault) → Stops r ws x.len stop → Unfinished vs → Told r t (Err (short_fault (length t) stop))
+  open_end : (stop : Result Rest (WordFault Cause)) → Stops r ws x.len stop → Unfinished vs → Told r t (Err (short_fault (length t) stop))
   open_end (Ok Over) s u = (vs, all_spelled s, omega (arith, fd.few), u, refl)
   open_end (Ok (More at)) s u = (x.len, vs, reach_all at s.0 s.2, s.1, u)
   open_end (Err f) s u = (x.len, vs, reach_all f.at s.0 s.2, s.1, u, s.3)
@@ -129,7 +130,7 @@ module _ (r : Roll) (t : List ℕ) (x : Found) (fd : Finds r t x) where
       to_err _ res (h (omega (arith, fd.within))) (k, take k vs, reach k lt, omega (arith, fd.few), m.2)
   shape_told S.TooMany res m h = absurd (omega (arith, m, long, fd.few))
 
-  ends : (stop : Result Rest WordFault) → (after_fault stop ≡ Ok tt) ⊎ ((e : PolicyFault) × (after_fault stop ≡ Err e))
+  ends : (stop : Result Rest (WordFault Cause)) → (after_fault stop ≡ Ok tt) ⊎ ((e : PolicyFault) × (after_fault stop ≡ Err e))
   ends (Ok Over) = inl refl
   ends (Ok (More at)) = inr (P.After at, refl)
   ends (Err f) = inr (P.After f.at, refl)

@@ -38,7 +38,7 @@ pub fn find_words(roll: &Roll, text: &[u8]) -> Found
             let stop = Ok(Rest::More(piece.at));
             return Found { words, len, stop };
         }
-        match read_word(roll, piece.bytes, piece.at) {
+        match read_word(roll, piece) {
             Ok(word) => words[len] = word,
             Err(fault) => {
                 let stop = Err(fault);
