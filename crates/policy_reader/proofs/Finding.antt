@@ -1,6 +1,6 @@
 -- The words of a text, one after another.
-use Rattle.std.proofs.Common.{◌≡◌, ℕ, zero, suc, ◌+◌, ◌<◌, List, [], ◌∷◌, ◌++◌, length, get_or, take, drop, set, sym, refl, ap, ◌∙◌, subst, add-one, arith}
-use Rattle.std.proofs.lemmas.List.{take_more, take_more_set}
+use Rattle.std.proofs.Common.{◌≡◌, ℕ, zero, suc, ◌+◌, ◌<◌, List, [], ◌∷◌, ◌++◌, length, get_or, take, drop, sym, refl, ap, ◌∙◌, subst, add-one, arith, length-append}
+use Rattle.std.proofs.lemmas.List.{take_more}
 use Rattle.text.specs.Text.{start_of}
 use Rattle.text.specs.Left.{left, start, Took}
 use Rattle.text.specs.declared.pieces.Piece.{Piece}
@@ -18,10 +18,11 @@ each_push r [] (x ∷ bs) w b h s = absurd h
 each_push r (v ∷ vs) [] w b h s = absurd h
 each_push r (v ∷ vs) (x ∷ bs) w b h s = (h.0, each_push r vs bs w b h.1 s)
 
-pub each_more : (r : Roll) (words : List Word) (n : ℕ) (w : Word) (ws : List (List ℕ)) (b : List ℕ) → n < length words → n < length ws → get_or ws n [] ≡ b → EachSpells r (take n words) (take n ws) → Spells r w b → EachSpells r (take (n + 1) (set words n w)) (take (n + 1) ws)
-each_more r words n w ws b lw lt e h s =
-    subst (λ x. EachSpells r x (take (n + 1) ws)) (sym (take_more_set words n w lw))
-    (subst (EachSpells r (take n words ++ w ∷ [])) (sym (take_more ws n [] lt)) (each_push r (take n words) (take n ws) w (get_or ws n []) h (subst (Spells r w) (sym e) s)))
+-- one word more is found
+pub each_more : (r : Roll) (vs : List Word) (w : Word) (ws : List (List ℕ)) (b : List ℕ) → length vs < length ws → get_or ws (length vs) [] ≡ b → EachSpells r vs (take (length vs) ws) → Spells r w b → EachSpells r (vs ++ w ∷ []) (take (length (vs ++ w ∷ [])) ws)
+each_more r vs w ws b lt e h s =
+    let long : length (vs ++ w ∷ []) ≡ length vs + 1 = omega (arith, length-append vs (w ∷ [])) in
+    subst (EachSpells r (vs ++ w ∷ [])) (sym (take_more ws (length vs) [] lt) ∙ ap (λ n. take n ws) (sym long)) (each_push r vs (take (length vs) ws) w (get_or ws (length vs) []) h (subst (Spells r w) (sym e) s))
 
 start_zero : (ws : List (List ℕ)) → start_of 0 ws ≡ 0
 start_zero [] = refl

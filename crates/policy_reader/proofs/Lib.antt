@@ -3,3 +3,4 @@ pub mod Telling
 pub mod OneWord
 pub mod OneAnswer
 pub mod Counted
+pub mod Promises

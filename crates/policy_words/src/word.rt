@@ -36,7 +36,7 @@ impl TryFrom<&[u8]> for Letter {
 }
 
 // One word of a policy: its sign, and its operand as a number or a letter.
-#[derive(Clone, Copy)]
+#[derive(Clone, Copy, Default)]
 pub enum Word {
     // `#c`: the name c
     Name(u8),
@@ -66,7 +66,8 @@ pub enum Word {
     Seq,
     // `+`: a path once or more
     Plus,
-    // `=`: the empty path
+    // `=`: the empty path, and the default
+    #[default]
     Stay,
 }
 
