@@ -45,21 +45,7 @@ each_at r (v ∷ vs) (b ∷ bs) zero h lt = h.0
 each_at r (v ∷ vs) (b ∷ bs) (suc k) h lt = each_at r vs bs k h.1 (omega arith)
 
 operand-allowed : (r : Roll) (w : Word) (o : List ℕ) → IsOperand r w o → Allowed w
-operand-allowed r (W.Name n) o h = h.few
-operand-allowed r (W.Letter v) o h = tt
-operand-allowed r (W.Mark n) o h = h.few
-operand-allowed r W.Not o h = tt
-operand-allowed r W.And o h = tt
-operand-allowed r W.Or o h = tt
-operand-allowed r (W.AtLetter v) o h = tt
-operand-allowed r (W.AtName n) o h = h.few
-operand-allowed r (W.Bind v) o h = h.0
-operand-allowed r W.Follow o h = tt
-operand-allowed r (W.Forward n) o h = h.few
-operand-allowed r (W.Backward n) o h = h.few
-operand-allowed r W.Seq o h = tt
-operand-allowed r W.Plus o h = tt
-operand-allowed r W.Stay o h = tt
+operand-allowed r w o h = grind arith
 
 module _ (r : Roll) (x : Found) (fd : Finds r x) where
   abbrev t : List ℕ
