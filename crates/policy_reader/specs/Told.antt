@@ -1,5 +1,6 @@
 -- What is to be told of a text under a roll: the formula that it spells, or the first fault.
 use Rattle.std.specs.Prelude.{◌≡◌, ℕ, ◌<◌, ◌≤◌, List, [], ◌∷◌, ◌++◌, length, take, Ok, Err, Result, slice_index_or}
+use Rattle.std.specs.List.{AllByRecursion, AllZip}
 use Rattle.text.specs.Text.{words as text_words, start_of}
 use Rattle.book.specs.declared.counts.Counts.{Counts}
 use Rattle.roll.specs.declared.roll.Roll.{Roll}
@@ -15,12 +16,9 @@ use Rattle.policy_reader.specs.Spell.{Spells, Wrong}
 use Rattle.policy_reader.specs.declared.fault.PolicyFault.{PolicyFault}
 use Rattle.policy_reader.specs.declared.fault.PolicyFault.TheVariants as P
 
--- each of the pieces spells its word
+-- the pieces spell the words, each its own, and there are as many
 abbrev pub EachSpells : Roll → List Word → List (List ℕ) → Type 0
-EachSpells r [] [] = Unit {0}
-EachSpells r [] (b ∷ bs) = ⊥
-EachSpells r (w ∷ ws) [] = ⊥
-EachSpells r (w ∷ ws) (b ∷ bs) = Spells r w b × EachSpells r ws bs
+EachSpells r ws bs = AllZip (Spells r) ws bs
 
 -- the words of the text t spell the formula, which has at most 64 words
 abbrev pub Spelled : Roll → List ℕ → Formula → Type 0
@@ -80,7 +78,6 @@ Below c W.Seq = Unit {0}
 Below c W.Plus = Unit {0}
 Below c W.Stay = Unit {0}
 
--- each word's is
+-- each word's number is below the count of its list
 abbrev pub EachBelow : Counts → List Word → Type 0
-EachBelow c [] = Unit {0}
-EachBelow c (w ∷ ws) = Below c w × EachBelow c ws
+EachBelow c ws = AllByRecursion (Below c) ws
