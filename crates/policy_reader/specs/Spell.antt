@@ -68,21 +68,14 @@ Spells r w bs = (o : List ℕ) × (bs ≡ mark (sign_of w) ++ o) × IsOperand r 
 
 -- signs that take no operand
 abbrev pub bare : Sign → Bool
-bare S.Name = false
-bare S.Letter = false
-bare S.Mark = false
 bare S.Not = true
 bare S.And = true
 bare S.Or = true
-bare S.AtLetter = false
-bare S.AtName = false
-bare S.Bind = false
 bare S.Follow = true
-bare S.Forward = false
-bare S.Backward = false
 bare S.Seq = true
 bare S.Plus = true
 bare S.Stay = true
+bare _ = false
 
 -- an operand is 1 to 16 bytes, and a bare sign has none
 abbrev pub Fit : Bool → List ℕ → Type 0
@@ -94,11 +87,10 @@ Listed r s o = (w : Word) × (sign_of w ≡ s) × IsOperand r w o
 
 -- the first rule that the operand o breaks, where its sign is bare or not, and L says that o is in its list
 abbrev pub Breaks : Bool → List ℕ → Type 0 → Cause → Type 0
-Breaks b o L C.Empty = ⊥
-Breaks b o L C.Sign = ⊥
 Breaks b o L C.Byte = Plain o → ⊥
 Breaks b o L C.Length = Plain o × (Fit b o → ⊥)
 Breaks b o L C.Unlisted = Plain o × Fit b o × (L → ⊥)
+Breaks b o L _ = ⊥
 
 -- why the bytes bs spell no word: they have no sign, or the operand breaks a rule
 abbrev pub Wrong : Roll → List ℕ → Cause → Type 0

@@ -80,6 +80,4 @@ operand (T.Stay o) = o
 abbrev pub Unsigned : List ℕ → Cause → Type 0
 Unsigned bs C.Empty = bs ≡ []
 Unsigned bs C.Sign = (bs ≢ []) × ((s : Sign) (o : List ℕ) → bs ≢ mark s ++ o)
-Unsigned bs C.Byte = ⊥
-Unsigned bs C.Length = ⊥
-Unsigned bs C.Unlisted = ⊥
+Unsigned bs _ = ⊥

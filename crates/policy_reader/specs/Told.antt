@@ -60,23 +60,14 @@ Gave (Ok p) (Err e) = ⊥
 Gave (Err d) (Ok f) = ⊥
 Gave (Err d) (Err e) = d ≡ e
 
--- the word's number is below the count of its list
+-- the word's number, if it has one, is below the count of its list
 abbrev pub Below : Counts → Word → Type 0
 Below c (W.Name n) = n < c.names
-Below c (W.Letter v) = Unit {0}
-Below c (W.Mark m) = m < c.marks
-Below c W.Not = Unit {0}
-Below c W.And = Unit {0}
-Below c W.Or = Unit {0}
-Below c (W.AtLetter v) = Unit {0}
 Below c (W.AtName n) = n < c.names
-Below c (W.Bind v) = Unit {0}
-Below c W.Follow = Unit {0}
+Below c (W.Mark m) = m < c.marks
 Below c (W.Forward l) = l < c.labels
 Below c (W.Backward l) = l < c.labels
-Below c W.Seq = Unit {0}
-Below c W.Plus = Unit {0}
-Below c W.Stay = Unit {0}
+Below c _ = Unit {0}
 
 -- each word's number is below the count of its list
 abbrev pub EachBelow : Counts → List Word → Type 0

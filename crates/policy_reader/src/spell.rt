@@ -27,7 +27,7 @@ fn limit_of(list: List) -> u8
 
 impl<'a> Operand<'a> {
     // The word of a bare sign: it has no operand.
-    fn none(self, word: Word) -> Result<Word, WordFault>
+    fn bare(self, word: Word) -> Result<Word, WordFault>
         ensures { ReadAs true self.entry (λ w. (w ≡ word) × (self.entry.bytes.now ≡ [])) result }
     {
         if !is_plain(self.bytes) {
@@ -50,7 +50,7 @@ impl<'a> Operand<'a> {
     }
 
     // The number of an operand in its list.
-    fn number(self, roll: &Roll, list: List) -> Result<u8, WordFault>
+    fn number_in(self, roll: &Roll, list: List) -> Result<u8, WordFault>
         ensures { ReadAs false self.entry (λ n. Numbered roll.now list self.entry.bytes.now n) result }
     {
         self.check()?;
@@ -84,21 +84,21 @@ impl<'a> Token<'a> {
         ensures { MatchResult result (λ w. (sign_of w ≡ sign self.entry) × IsOperand roll.now w (operand self.entry).bytes.now) (IsFaultOf (bare (sign self.entry)) (operand self.entry) (Listed roll.now (sign self.entry) (operand self.entry).bytes.now)) }
     {
         match self {
-            Token::Name(operand) => operand.number(roll, List::Names).map(Word::Name),
+            Token::Name(operand) => operand.number_in(roll, List::Names).map(Word::Name),
             Token::Letter(operand) => operand.letter().map(Word::Letter),
-            Token::Mark(operand) => operand.number(roll, List::Marks).map(Word::Mark),
-            Token::Not(operand) => operand.none(Word::Not),
-            Token::And(operand) => operand.none(Word::And),
-            Token::Or(operand) => operand.none(Word::Or),
+            Token::Mark(operand) => operand.number_in(roll, List::Marks).map(Word::Mark),
+            Token::Not(operand) => operand.bare(Word::Not),
+            Token::And(operand) => operand.bare(Word::And),
+            Token::Or(operand) => operand.bare(Word::Or),
             Token::AtLetter(operand) => operand.letter().map(Word::AtLetter),
-            Token::AtName(operand) => operand.number(roll, List::Names).map(Word::AtName),
+            Token::AtName(operand) => operand.number_in(roll, List::Names).map(Word::AtName),
             Token::Bind(operand) => operand.settable().map(Word::Bind),
-            Token::Follow(operand) => operand.none(Word::Follow),
-            Token::Forward(operand) => operand.number(roll, List::Labels).map(Word::Forward),
-            Token::Backward(operand) => operand.number(roll, List::Labels).map(Word::Backward),
-            Token::Seq(operand) => operand.none(Word::Seq),
-            Token::Plus(operand) => operand.none(Word::Plus),
-            Token::Stay(operand) => operand.none(Word::Stay),
+            Token::Follow(operand) => operand.bare(Word::Follow),
+            Token::Forward(operand) => operand.number_in(roll, List::Labels).map(Word::Forward),
+            Token::Backward(operand) => operand.number_in(roll, List::Labels).map(Word::Backward),
+            Token::Seq(operand) => operand.bare(Word::Seq),
+            Token::Plus(operand) => operand.bare(Word::Plus),
+            Token::Stay(operand) => operand.bare(Word::Stay),
         }
     }
 }
