@@ -1,22 +1,14 @@
 -- Walking a list of words.
-use Rattle.std.proofs.Common.{◌≡◌, ℕ, zero, suc, ◌+◌, ◌-◌, ◌<◌, ◌≤◌, false, List, [], ◌∷◌, length, get_or, take, drop, Some, None, Option, unwrap_or, sym, refl, ap, ◌∙◌, inl, inr, add-zero, arith, length-drop}
-use Rattle.std.specs.List.{slice_get}
-use Rattle.std.proofs.lemmas.List.{get_or-drop, drop-drop, take_all}
-use Rattle.std.proofs.lemmas.Option.{slice_get-get_or, slice_get_past}
+use Rattle.std.proofs.Common.{◌≡◌, ℕ, ◌+◌, ◌<◌, ◌≤◌, Bool, true, false, ◌≢◌, List, [], ◌∷◌, length, get_or, drop, Some, None, Option, Decides, HoldsAt, MatchBool, bytes_eq, sym, refl, ap, ◌∙◌, subst, inl, inr, add-zero, arith, length-drop}
+use Rattle.std.specs.List.{slice_get, position_or_len, enumerate_from, AllWithin}
+use Rattle.std.proofs.lemmas.List.{get_or-drop, drop-drop, get_or_default}
+use Rattle.std.proofs.lemmas.List.FromFn.{length-enumerate_from, get_or-enumerate_from}
+use Rattle.std.proofs.lemmas.List.Quantifiers.{position-Some}
+use Rattle.std.proofs.lemmas.List.Sums.{fails_before_first, position_or_len_is}
+use Rattle.std.proofs.lemmas.Option.{slice_get-get_or, slice_get_within, get_or_from_slice_get}
 use Rattle.std.proofs.lemmas.Slice.Eq.{bytes_eq-Decides}
-use Rattle.std.proofs.lemmas.Bool.{cond-true, cond-false, cases_Bool, cases_lt, both_ways}
-use Rattle.std.specs.Str.{bytes_eq}
-use Rattle.roll.specs.Lists.{Distinct, place_from, place_of}
-
-not_same : (v w : List ℕ) → (v ≡ w → ⊥) → bytes_eq v w ≡ false
-not_same v w n = elim (cases_Bool (bytes_eq v w)) [ inl t ↦ absurd (n ((bytes_eq-Decides v w).0 t)) | inr f ↦ f ]
-
-module _ (n : ℕ) (w v : List ℕ) (l m : List (List ℕ)) (is : l ≡ v ∷ m) where
-  pub found : v ≡ w → place_from n w l ≡ Some n
-  found e = ap (place_from n w) is ∙ cond-true (bytes_eq v w) _ _ ((bytes_eq-Decides v w).1 e)
-
-  pub passed : (v ≡ w → ⊥) → place_from n w l ≡ place_from (n + 1) w m
-  passed e = ap (place_from n w) is ∙ cond-false (bytes_eq v w) _ _ (not_same v w e)
+use Rattle.std.proofs.lemmas.Bool.{cond-true, lt-ltb, cases_lt, both_ways, false_from_ne_true, false≢true}
+use Rattle.roll.specs.Lists.{Distinct, place_of}
 
 -- one step on in a list of which the first n words are passed
 module _ (n : ℕ) (v : List ℕ) (all l m : List (List ℕ)) (here : drop n all ≡ l) (is : l ≡ v ∷ m) where
@@ -36,94 +28,53 @@ pub some_is : {X : Type 0} (a b : X) → ◌≡◌ {A = Option X} (Some a) (Some
 some_is a b e = cc
 
 pub none_some : {X : Type 0} (a : X) → ◌≡◌ {A = Option X} None (Some a) → ⊥
-none_some a e = let z : ◌≡◌ {A = ℕ} 0 1 = cc in omega arith
+none_some a e = cc
 
--- d is the first place of w in l
-pub record First (w : List ℕ) (l : List (List ℕ)) (d : ℕ) : Type 0 where
-  pub there : d < length l
-  pub is : get_or l d [] ≡ w
-  pub none : (j : ℕ) → j < d → get_or l j [] ≡ w → ⊥
-
-none_more : (w v : List ℕ) (l : List (List ℕ)) (d : ℕ) → (v ≡ w → ⊥) → ((j : ℕ) → j < d → get_or l j [] ≡ w → ⊥) → (j : ℕ) → j < suc d → get_or (v ∷ l) j [] ≡ w → ⊥
-none_more w v l d n h zero lt e = n e
-none_more w v l d n h (suc j) lt e = h j (omega arith) e
-
-pub place_some : (n : ℕ) (w : List ℕ) (l : List (List ℕ)) (k : ℕ) → place_from n w l ≡ Some k → (d : ℕ) × (k ≡ n + d) × First w l d
-place_some n w [] k e = absurd (none_some k e)
-place_some n w (v ∷ vs) k e =
-    elim (cases_Bool (bytes_eq v w)) [
-      | inl t ↦ (0, some_is k n (sym e ∙ cond-true (bytes_eq v w) _ _ t) ∙ sym (add-zero n), record { there = omega arith; is = (bytes_eq-Decides v w).0 t; none = λ j lt. absurd (omega arith) })
-      | inr f ↦ let r = place_some (n + 1) w vs k (sym (cond-false (bytes_eq v w) _ _ f) ∙ e) in
-          (suc r.0, omega (arith, r.1), record { there = omega (arith, r.2.there); is = r.2.is; none = none_more w v vs r.0 (λ q. both_ways (bytes_eq v w) f ((bytes_eq-Decides v w).1 q)) r.2.none })
+-- a word that has no place is not there
+pub place_none : (w : List ℕ) (l : List (List ℕ)) → place_of w l ≡ None → (j : ℕ) → j < length l → get_or l j [] ≢ w
+place_none w l e j lt q =
+    let is : List ℕ → Bool = λ v. bytes_eq v w in
+    elim (cases_lt (position_or_len is l) (length l)) [
+      | inl le ↦ none_some _ (sym e ∙ cond-true _ _ _ (lt-ltb _ _ le))
+      | inr ge ↦ both_ways (bytes_eq (get_or l j []) w) (fails_before_first is l j [] (omega arith)) ((bytes_eq-Decides (get_or l j []) w).1 q)
     ]
 
-pub place_none : (n : ℕ) (w : List ℕ) (l : List (List ℕ)) → place_from n w l ≡ None → (j : ℕ) → j < length l → get_or l j [] ≡ w → ⊥
-place_none n w [] e j lt q = absurd (omega arith)
-place_none n w (v ∷ vs) e j lt q =
-    elim (cases_Bool (bytes_eq v w)) [
-      | inl t ↦ none_some n (sym e ∙ cond-true (bytes_eq v w) _ _ t)
-      | inr f ↦ none_more w v vs (length vs) (λ x. both_ways (bytes_eq v w) f ((bytes_eq-Decides v w).1 x)) (place_none (n + 1) w vs (sym (cond-false (bytes_eq v w) _ _ f) ∙ e)) j lt q
-    ]
+-- the word that has the place d is the one at d, and no word before it is that word
+pub place_word : (l : List (List ℕ)) (w : List ℕ) (d : ℕ) → place_of w l ≡ Some d → (d < length l) × (get_or l d [] ≡ w)
+place_word l w d e = let p = position-Some (λ v. bytes_eq v w) l d [] e in (p.0, (bytes_eq-Decides (get_or l d []) w).0 p.1)
 
-pub place-first : (n : ℕ) (w : List ℕ) (l : List (List ℕ)) (d : ℕ) → First w l d → place_from n w l ≡ Some (n + d)
-place-first n w [] d h = absurd (omega (arith, h.there))
-place-first n w (v ∷ vs) zero h = found n w v (v ∷ vs) vs refl h.is ∙ ap Some (sym (add-zero n))
-place-first n w (v ∷ vs) (suc d) h =
-    passed n w v (v ∷ vs) vs refl (h.none 0 (omega arith))
-    ∙ place-first (n + 1) w vs d record { there = omega (arith, h.there); is = h.is; none = λ j lt. h.none (suc j) (omega arith) }
-    ∙ ap Some (omega arith)
+place_first : (l : List (List ℕ)) (w : List ℕ) (d k : ℕ) → place_of w l ≡ Some d → k < d → get_or l k [] ≢ w
+place_first l w d k e lt q = both_ways (bytes_eq (get_or l k []) w) ((position-Some (λ v. bytes_eq v w) l d [] e).2 k lt) ((bytes_eq-Decides (get_or l k []) w).1 q)
 
--- in a list without a word twice, the word with the number d has the number d
+-- in a list without a word twice, the word at d has the place d
 pub place_of_lem : (l : List (List ℕ)) (d : ℕ) → Distinct l → d < length l → place_of (get_or l d []) l ≡ Some d
 place_of_lem l d apart lt =
-    place-first 0 (get_or l d []) l d record { there = lt; is = refl; none = λ j less. apart j d less lt } ∙ ap Some (omega arith)
+    let w = get_or l d [] in
+    let is : List ℕ → Bool = λ v. bytes_eq v w in
+    let here : position_or_len is l ≡ d = position_or_len_is is l d [] (omega arith) (λ k less. false_from_ne_true _ (λ t. apart k d [] less lt ((bytes_eq-Decides (get_or l k []) w).0 t))) (λ _. (bytes_eq-Decides w w).1 refl) in
+    let less : position_or_len is l < length l = omega arith in
+    cond-true _ _ _ (lt-ltb _ _ less) ∙ ap Some here
 
--- and the word that has the number d is the one at d
-pub place_word : (l : List (List ℕ)) (w : List ℕ) (d : ℕ) → place_of w l ≡ Some d → (d < length l) × (get_or l d [] ≡ w)
-place_word l w d e = let r = place_some 0 w l d e in (omega (arith, r.1, r.2.there), ap (λ k. get_or l k []) (omega (arith, r.1)) ∙ r.2.is)
-
--- the first 64 of a list, of which n are passed
-pub front_step : (n : ℕ) (v : List ℕ) (l m : List (List ℕ)) → n < 64 → l ≡ v ∷ m → take (64 - n) l ≡ v ∷ take (64 - (n + 1)) m
-front_step n v l m lt is =
-    let more : 64 - n ≡ suc (64 - (n + 1)) = omega arith in
-    ap (λ k. take k l) more ∙ ap (take (suc (64 - (n + 1)))) is
-
-pub front_none : (n : ℕ) (l : List (List ℕ)) → l ≡ [] → take (64 - n) l ≡ []
-front_none n l e = ap (take (64 - n)) e ∙ take_all (64 - n) [] (omega arith)
-
-pub front_full : (n : ℕ) (l : List (List ℕ)) → 64 ≤ n → take (64 - n) l ≡ []
-front_full n l le = let none : 64 - n ≡ 0 = omega arith in ap (λ k. take k l) none
-
--- the word that stands at a place, and none past the end
+-- the word that stands at a place
 pub word_here : (n : ℕ) (v : List ℕ) (all : List (List ℕ)) → n < length all → get_or all n [] ≡ v → slice_get all n ≡ Some v
 word_here n v all lt e = slice_get-get_or all n [] lt ∙ ap Some e
 
 pub word_there : (n : ℕ) (v : List ℕ) (all : List (List ℕ)) → slice_get all n ≡ Some v → (n < length all) × (get_or all n [] ≡ v)
-word_there n v all e =
-    elim (cases_lt n (length all)) [
-      | inl lt ↦ (lt, some_is _ _ (sym (slice_get-get_or all n [] lt) ∙ e))
-      | inr ge ↦ absurd (none_some v (sym (slice_get_past all n ge) ∙ e))
-    ]
+word_there n v all e = (slice_get_within all n v e, get_or_from_slice_get all n v [] e)
 
--- the word v at n has no place before it, where its number is n
-pub once : (n : ℕ) (l : List (List ℕ)) (v : List ℕ) → get_or l n [] ≡ v → place_of v l ≡ Some n → ((i j : ℕ) → i < j → j < n → get_or l i [] ≡ get_or l j [] → ⊥) → (i j : ℕ) → i < j → j < n + 1 → get_or l i [] ≡ get_or l j [] → ⊥
-once n l v here is h i j ij jn e =
-    elim (cases_lt j n) [
-      | inl less ↦ h i j ij less e
-      | inr ge ↦
-          let at : get_or l i [] ≡ v = e ∙ ap (λ k. get_or l k []) (omega arith) ∙ here in
-          let r = place_some 0 v l n is in
-          r.2.none i (omega (arith, r.1)) at
-    ]
+pair_at : (l : List (List ℕ)) (k : ℕ) → k < length l → get_or (enumerate_from 0 l) k (0, []) ≡ (k, get_or l k [])
+pair_at l k lt = get_or-enumerate_from 0 l k (0, []) lt ∙ ap (λ n. (n, get_or l k [])) (omega arith)
 
--- the word at n has a number, which is n or comes before it
-pub own_number : (n : ℕ) (l : List (List ℕ)) (v : List ℕ) (o : Option ℕ) → n < length l → get_or l n [] ≡ v → o ≡ place_of v l → unwrap_or o n ≡ n → place_of v l ≡ Some n
-own_number n l v None lt here is e = absurd (place_none 0 v l (sym is) n lt here)
-own_number n l v (Some k) lt here is e = sym is ∙ ap Some e
-
-pub other_number : (n : ℕ) (l : List (List ℕ)) (v : List ℕ) (o : Option ℕ) → n < length l → get_or l n [] ≡ v → o ≡ place_of v l → (unwrap_or o n ≡ n → ⊥) → Distinct l → ⊥
-other_number n l v o lt here is ne d = ne (ap (λ x. unwrap_or x n) (is ∙ ap (λ w. place_of w l) (sym here) ∙ place_of_lem l n d lt))
-
--- no word comes twice in the words that were walked
-pub walked : (n : ℕ) (l : List (List ℕ)) → length l ≤ n → ((i j : ℕ) → i < j → j < n → get_or l i [] ≡ get_or l j [] → ⊥) → Distinct l
-walked n l le h i j ij jl e = h i j ij (omega arith) e
+-- each word has its own place where none comes twice, and only there
+pub own_places : (ws : List (List ℕ)) (r : Bool)
+    → MatchBool r (AllWithin (λ p. place_of p.1 ws ≡ Some p.0) (enumerate_from 0 ws) 0 (length (enumerate_from 0 ws))) ((k : ℕ) × (k < length (enumerate_from 0 ws)) × HoldsAt (λ p. place_of p.1 ws ≢ Some p.0) (enumerate_from 0 ws) k)
+    → Decides r (Distinct ws)
+own_places ws true h =
+    let at : (k : ℕ) → k < length ws → place_of (get_or ws k []) ws ≡ Some k =
+    λ k lt. subst (λ p. place_of p.1 ws ≡ Some p.0) (pair_at ws k lt) (h k (0, []) (omega arith) (omega (arith, length-enumerate_from 0 ws))) in
+    (λ _ i j d lt jl e. place_first ws (get_or ws j []) j i (at j jl) lt (sym (get_or_default ws i d [] (omega arith)) ∙ e ∙ get_or_default ws j d [] jl), λ _. refl)
+own_places ws false h = (
+  λ e. absurd (false≢true e),
+  λ apart. let lt : h.0 < length ws = omega (arith, h.1, length-enumerate_from 0 ws) in
+      absurd (h.2 (0, []) (subst (λ p. place_of p.1 ws ≡ Some p.0) (sym (pair_at ws h.0 lt)) (place_of_lem ws h.0 apart lt))),
+)

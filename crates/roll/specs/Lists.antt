@@ -1,5 +1,5 @@
 -- The words of one list, their numbers, and why a list is refused.
-use Rattle.std.specs.Prelude.{◌≡◌, ℕ, ◌+◌, ◌<◌, Bool, true, false, cond, ◌&&◌, List as Seq, [], ◌∷◌, length, take, Some, None, Option, ◌≢◌, slice_index_or}
+use Rattle.std.specs.Prelude.{◌≡◌, ℕ, ◌+◌, ◌<◌, Bool, true, false, ◌&&◌, List as Seq, [], ◌∷◌, length, take, Some, None, Option, is_none, ◌≢◌, slice_index_or, All, AllPairs, position}
 use Rattle.std.specs.Str.{bytes_eq}
 use Rattle.book.specs.Limits.{Within, within}
 use Rattle.book.specs.declared.counts.Counts.{Counts}
@@ -16,18 +16,13 @@ use Rattle.roll.specs.declared.list.ListFault.TheVariants.{Word, CountOrRepeat}
 abbrev pub numbered : Seq ℕ → Seq (Seq ℕ)
 numbered t = take 64 (words t)
 
--- the first place of w in a list whose first word has the number n
-abbrev pub place_from : ℕ → Seq ℕ → Seq (Seq ℕ) → Option ℕ
-place_from n w [] = None
-place_from n w (v ∷ vs) = cond (bytes_eq v w) (Some n) (place_from (n + 1) w vs)
-
 -- the first place of w in a list
 abbrev pub place_of : Seq ℕ → Seq (Seq ℕ) → Option ℕ
-place_of w ws = place_from 0 w ws
+place_of w ws = position (λ v. bytes_eq v w) ws
 
 -- no word comes twice
 abbrev pub Distinct : Seq (Seq ℕ) → Type 0
-Distinct ws = (i j : ℕ) → i < j → j < length ws → slice_index_or ws i [] ≢ slice_index_or ws j []
+Distinct ws = AllPairs (λ v w. v ≢ w) ws
 
 -- counts of which this list has n, and the others as few as they may
 abbrev pub alone : List → ℕ → Counts
@@ -37,7 +32,7 @@ alone Marks n = record { names = 1; labels = 0; marks = n }
 
 -- the words make a list: each fine by itself, as many as the list may have, none twice
 pub record Good (list : List) (ws : Seq (Seq ℕ)) : Type 0 where
-  pub fine : (k : ℕ) → k < length ws → Fine (slice_index_or ws k [])
+  pub fine : All Fine ws
   pub within : Within (alone list (length ws))
   pub apart : Distinct ws
 
@@ -51,7 +46,7 @@ pub record FirstWrong (ws : Seq (Seq ℕ)) (f : WordFault WordCause) : Type 0 wh
 
 -- each word is fine by itself, but there are too few, too many, or one comes twice
 pub record WrongTogether (list : List) (ws : Seq (Seq ℕ)) : Type 0 where
-  pub fine : (k : ℕ) → k < length ws → Fine (slice_index_or ws k [])
+  pub fine : All Fine ws
   pub not_both : Within (alone list (length ws)) → Distinct ws → ⊥
 
 -- what is to be told of a list's words: no fault, or which
@@ -72,15 +67,10 @@ abbrev pub first_fault : ℕ → Seq (Seq ℕ) → Option (WordFault WordCause)
 first_fault at [] = None
 first_fault at (w ∷ ws) = fault_at at (cause_of w) (first_fault (at + length w + 1) ws)
 
--- nothing was found
-abbrev pub absent : Option ℕ → Bool
-absent None = true
-absent (Some n) = false
-
 -- no word comes twice, as a test
 abbrev pub distinct : Seq (Seq ℕ) → Bool
 distinct [] = true
-distinct (w ∷ ws) = absent (place_of w ws) && distinct ws
+distinct (w ∷ ws) = is_none (place_of w ws) && distinct ws
 
 -- the first faulty word decides, then the words together
 abbrev pub fault_then : Option (WordFault WordCause) → Bool → Option ListFault

@@ -54,8 +54,7 @@ impl ListFault {
 fn first_fault(text: &[u8]) -> Option<WordFault<WordCause>>
     ensures { result ≡ first_fault 0 (words text.now) }
 {
-    let mut words = Pieces::words(text);
-    while let Some(word) = words.next() {
+    for word in Pieces::words(text) {
         if let Some(cause) = cause_of(word.bytes) {
             return Some(WordFault { cause, at: word.at });
         }

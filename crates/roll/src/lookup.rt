@@ -1,5 +1,5 @@
 // Look-up in the words of a text, of which the first 64 have numbers.
-ghost use Rattle.std.specs.Prelude.{◌≡◌, ℕ, ◌<◌, ◌≤◌, min, true, false, length, Decides};
+ghost use Rattle.std.specs.Prelude.{◌≡◌, ℕ, ◌<◌, ◌≤◌, min, true, false, length, Decides, IfSome};
 ghost use Rattle.std.specs.Option.{option_map};
 ghost use Rattle.std.specs.List.{slice_get};
 ghost use Rattle.text.specs.Text.{words};
@@ -11,60 +11,49 @@ use text::pieces::Pieces;
 pub fn count_in(text: &[u8]) -> u8
     ensures { result ≡ min 65 (length (words text.now)) }
 {
-    let mut words = Pieces::words(text);
-    for n in 0..65 {
-        let Some(_) = words.next() else {
-            return n;
-        };
-    }
-    65
+    Pieces::words(text).take(65).count() as u8
+}
+
+// The place of a word, which is its first.
+fn place_in(text: &[u8], word: &[u8]) -> Option<usize>
+    ensures value { result ≡ place_of word.now (numbered text.now) }
+    ensures few { IfSome result (λ place. place < 64) }
+{
+    Pieces::words(text)
+        .take(64)
+        .position(|next| next.bytes == word)
+}
+
+// Whether the word has this place, and no place before it.
+fn is_first(text: &[u8], word: &[u8], place: usize) -> bool
+    ensures { Decides result (place_of word.now (numbered text.now) ≡ Some place) }
+{
+    place_in(text, word) == Some(place)
 }
 
 // The number of a word, which is its first place.
 pub fn number_in(text: &[u8], word: &[u8]) -> Option<u8>
     ensures { result ≡ place_of word.now (numbered text.now) }
 {
-    let mut words = Pieces::words(text);
-    for n in 0..64 {
-        let Some(next) = words.next() else {
-            return None;
-        };
-        if next.bytes == word {
-            return Some(n);
-        }
-    }
-    None
+    place_in(text, word).map(|place| place as u8)
 }
 
 // The word of a number.
 pub fn word_in<'a>(text: &'a [u8], number: u8) -> Option<&'a [u8]>
     ensures { option_map (λ x. x.now) result ≡ slice_get (numbered text.now) number }
 {
-    let mut words = Pieces::words(text);
-    for n in 0..64 {
-        let Some(next) = words.next() else {
-            return None;
-        };
-        if n == number {
-            return Some(next.bytes);
-        }
-    }
-    None
+    Pieces::words(text)
+        .take(64)
+        .nth(usize::from(number))
+        .map(|word| word.bytes)
 }
 
 // Whether no word comes twice among those that have a number.
 pub fn is_distinct(text: &[u8]) -> bool
     ensures { Decides result (Distinct (numbered text.now)) }
 {
-    let mut words = Pieces::words(text);
-    for n in 0..64 {
-        let Some(next) = words.next() else {
-            return true;
-        };
-        let first = number_in(text, next.bytes).unwrap_or(n);
-        if first != n {
-            return false;
-        }
-    }
-    true
+    Pieces::words(text)
+        .take(64)
+        .enumerate()
+        .all(|(place, word)| is_first(text, word.bytes, place))
 }

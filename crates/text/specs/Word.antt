@@ -1,6 +1,6 @@
 -- What a word may hold.
-use Rattle.std.specs.Prelude.{◌≡◌, ℕ, ◌≤◌, Bool, true, cond, ◌&&◌, ◌||◌, ◌⊎◌, List, [], ◌∷◌, length, Some, None, Option, ◌==◌, nat_le}
-use Rattle.std.specs.List.{AllByRecursion}
+use Rattle.std.specs.Prelude.{◌≡◌, ℕ, ◌≤◌, Bool, cond, ◌&&◌, ◌||◌, ◌⊎◌, List, length, Some, None, Option, ◌==◌, nat_le}
+use Rattle.std.specs.List.{AllByRecursion, list_all}
 use Rattle.text.specs.declared.word.WordCause.{WordCause}
 use Rattle.text.specs.declared.word.WordCause.TheVariants.{BadByte, BadLength}
 
@@ -26,8 +26,7 @@ abbrev pub plain_byte : ℕ → Bool
 plain_byte b = (nat_le 97 b && nat_le b 122) || ((nat_le 48 b && nat_le b 57) || b == 45)
 
 abbrev pub plain : List ℕ → Bool
-plain [] = true
-plain (b ∷ bs) = plain_byte b && plain bs
+plain w = list_all plain_byte w
 
 -- what is wrong with a word by itself, as a function
 abbrev pub cause_of : List ℕ → Option WordCause

@@ -1,7 +1,7 @@
 // The pieces of a text, in which one byte parts each from the next.
 pub mod taking;
 
-ghost use Rattle.std.specs.Prelude.{◌≤◌, length};
+ghost use Rattle.std.specs.Prelude.{◌≤◌, length, unwrap_or};
 
 // A part of a text, with the byte offset at which it begins.
 #[derive(Clone, Copy)]
@@ -15,9 +15,7 @@ pub struct Piece<'a> {
 pub struct Pieces<'a> {
     text: &'a [u8],
     part: u8,
-    // where the next piece begins
-    at: usize,
-    // no piece is left
-    over: bool,
-    ghost inside: { at ≤ length text.now },
+    // where the next piece begins; nothing where no piece is left
+    at: Option<usize>,
+    ghost inside: { unwrap_or at 0 ≤ length text.now },
 }

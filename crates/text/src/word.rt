@@ -41,12 +41,7 @@ pub fn is_plain(bytes: &[u8]) -> bool
     ensures value { result ≡ plain bytes.now }
     ensures means { Decides result (Plain bytes.now) }
 {
-    for b in bytes {
-        if !is_plain_byte(*b) {
-            return false;
-        }
-    }
-    true
+    bytes.iter().all(|b| is_plain_byte(*b))
 }
 
 // What is wrong with a word, if anything: a bad byte comes before a bad length.

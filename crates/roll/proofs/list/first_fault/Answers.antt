@@ -4,5 +4,5 @@ use Rattle.roll.proofs.list.first_fault.Goals as goal
 
 pub loop-word-preserved : goal.loop-word-preserved
 loop-word-preserved c =
-    let t = c.in-Some.ensures in
-    sym (fault_passed _ _ _ _ _ t.first (sym c.cause_of.ensures.value ∙ c.in_default-cause_of.is) t.further) ∙ c.loop-word.invariant
+    let t = c.in-Some.ensures.steps in
+    sym (fault_passed _ _ _ _ _ t.first (sym c.cause_of.ensures.value ∙ c.in_default.is) t.further) ∙ c.loop-word.invariant

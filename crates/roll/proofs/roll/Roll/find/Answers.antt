@@ -1,6 +1,6 @@
 use Rattle.std.proofs.Common.{ap, ◌∙◌}
 use Rattle.roll.specs.Lists.{numbered, place_of}
-use Rattle.roll.proofs.Faults.{number_back, number_again}
+use Rattle.roll.proofs.Rolls.{number_back, number_again}
 use Rattle.roll.proofs.roll.Roll.find.Goals as goal
 
 pub returns : goal.returns
@@ -11,5 +11,5 @@ returns c =
     record {
       value = is;
       back = number_back r c.args.list w _ is;
-      again = λ h n e. is ∙ number_again r c.args.list w h n e;
+      again = λ n e. is ∙ number_again r c.args.list w n e;
     }

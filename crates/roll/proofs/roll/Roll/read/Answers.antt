@@ -1,7 +1,7 @@
 use Rattle.std.proofs.Common.{None, refl}
 use Rattle.std.specs.Result.{result_err}
 use Rattle.std.proofs.lemmas.Result.{MatchResult-from_err}
-use Rattle.roll.proofs.Faults.{roll_as_told, told_err, fault_in_names, fault_in_labels, fault_in_marks, no_fault, sound_by}
+use Rattle.roll.proofs.Rolls.{roll_as_told, told_err, fault_in_names, fault_in_labels, fault_in_marks, no_fault, sound}
 use Rattle.roll.proofs.roll.Roll.read.Goals as goal
 
 pub returns-in_err-check_list : goal.returns-in_err-check_list
@@ -53,7 +53,14 @@ returns c =
     record {
       value = v;
       holds = (refl, refl, refl);
-      sound = sound_by record { names = c.args.names; labels = c.args.labels; marks = c.args.marks } t.0.0 t.0.1 t.0.2;
+      sound = sound record {
+        names = c.args.names;
+        labels = c.args.labels;
+        marks = c.args.marks;
+        names_fine = c.in_ok-check_list.ensures;
+        labels_fine = c.in_ok-check_list-2.ensures;
+        marks_fine = c.in_ok-check_list-3.ensures;
+      };
       told = t.0;
       only = t.1;
     }

@@ -2,7 +2,7 @@ use Rattle.std.proofs.Common.{◌≡◌, ◌<◌, length, Some, ap, ◌∙◌}
 use Rattle.std.specs.List.{slice_get}
 use Rattle.roll.specs.Lists.{numbered}
 use Rattle.roll.specs.Rolls.{words_of, number_of}
-use Rattle.roll.proofs.Faults.{word_number, lent}
+use Rattle.roll.proofs.Rolls.{word_number, lent}
 use Rattle.roll.proofs.roll.Roll.word.Goals as goal
 
 pub returns : goal.returns
@@ -13,5 +13,5 @@ returns c =
     let is = c.word_in.ensures ∙ ap (λ t. slice_get (numbered t) n) c.text.ensures in
     record {
       value = is;
-      there = λ h. lent (λ x. x.now) c.word_in.result _ (λ w. (n < length (words_of r list)) × (number_of r list w ≡ Some n)) (word_number r list n _ is h);
+      there = lent (λ x. x.now) c.word_in.result _ (λ w. (n < length (words_of r list)) × (number_of r list w ≡ Some n)) (word_number r list n _ is);
     }

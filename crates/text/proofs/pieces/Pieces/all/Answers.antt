@@ -1,10 +1,9 @@
-use Rattle.std.proofs.Common.{refl}
-use Rattle.text.specs.Text.{pieces}
-use Rattle.text.proofs.Cuts.{cut_pieces, cut_only, joined-pieces, stands}
+use Rattle.text.proofs.Cuts.{cut_pieces}
+use Rattle.text.proofs.Takes.{gives_each}
 use Rattle.text.proofs.pieces.Pieces.all.Goals as goal
 
-pub returns : goal.returns
-returns c =
-    let t = c.args.text.now in
-    let s = c.args.part in
-    record { value = refl; starts = refl; holds = refl; cut = cut_pieces s t; only = cut_only s t; stand = stands s t (pieces s t) (joined-pieces s t) }
+pub returns-clause-cut : goal.returns-clause-cut
+returns-clause-cut c = cut_pieces c.args.part c.args.text.now
+
+pub returns-clause-each : goal.returns-clause-each
+returns-clause-each c = gives_each

@@ -1,17 +1,9 @@
-use Rattle.std.proofs.Common.{refl}
-use Rattle.text.specs.Text.{words}
-use Rattle.text.proofs.Cuts.{words_left, no_words, cut_words, words_only, joined_words, stands}
+use Rattle.text.proofs.Cuts.{cut_words}
+use Rattle.text.proofs.Takes.{gives_each}
 use Rattle.text.proofs.pieces.Pieces.words.Goals as goal
 
-pub returns : goal.returns
-returns c =
-    let t = c.args.text.now in
-    record {
-      value = words_left c.is_empty.result t c.is_empty.ensures;
-      starts = refl;
-      holds = refl;
-      none = no_words t;
-      cut = cut_words t;
-      only = words_only t;
-      stand = stands 32 t (words t) (joined_words t);
-    }
+pub returns-clause-cut : goal.returns-clause-cut
+returns-clause-cut c = cut_words c.args.text.now
+
+pub returns-clause-each : goal.returns-clause-each
+returns-clause-each c = gives_each
