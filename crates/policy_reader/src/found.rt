@@ -25,8 +25,7 @@ pub fn find_words<'a>(roll: &Roll, text: &'a [u8]) -> Found<'a>
     ensures found { Finds roll.now result }
 {
     let mut words = ArrayVec::new();
-    let mut pieces = Pieces::words(text);
-    while let Some(piece) = pieces.next() {
+    for piece in Pieces::words(text) {
         if words.is_full() {
             let stop = Ok(Some(piece.at));
             return Found { text, words, stop };
@@ -48,15 +47,6 @@ impl<'a> Found<'a> {
     pub fn start_of(&self, k: usize) -> usize
         ensures { k < length (text_words self.now.text.now) → result ≡ start_of k (text_words self.now.text.now) }
     {
-        let mut pieces = Pieces::words(self.text);
-        for n in 0..k {
-            let Some(_) = pieces.next() else {
-                return n;
-            };
-        }
-        match pieces.next() {
-            Some(piece) => piece.at,
-            None => 0,
-        }
+        Pieces::words(self.text).nth(k).map_or(0, |piece| piece.at)
     }
 }

@@ -1,48 +1,49 @@
-use Rattle.std.proofs.Common.{◌≡◌, ◌<◌, [], length, take, drop, sym, ◌∙◌, subst, arith}
-use Rattle.roll.proofs.Walks.{step_end}
-use Rattle.text.specs.Text.{words as text_words, start_of}
+use Rattle.std.proofs.Common.{◌≡◌, ◌<◌, [], ◌∷◌, length, sym, ap, ◌∙◌, subst, arith, length-append}
+use Rattle.std.proofs.lemmas.Bool.{eqb-true}
+use Rattle.std.proofs.lemmas.List.{map-append}
+use Rattle.text.specs.Text.{words as text_words}
 use Rattle.text.specs.Left.{left, start}
-use Rattle.arrayvec.specs.ArrayVec.{array_vec_len}
 use Rattle.policy_reader.specs.Spell.{Wrong}
-use Rattle.policy_reader.specs.Told.{EachSpells}
-use Rattle.policy_reader.proofs.Finding.{each_more, took_there, took_word, took_on, took_at, took_next}
+use Rattle.policy_reader.proofs.Finding.{bytes, each_push, there, word, place, found}
 use Rattle.policy_reader.proofs.found.find_words.Goals as goal
+
+pub returns-then-is_full-clause-found : goal.returns-then-is_full-clause-found
+returns-then-is_full-clause-found c =
+    let whole = ap left c.into_iter-piece-iterator.ensures.into_iter_gives ∙ c.words-piece-items.ensures.value in
+    let begins = ap start c.into_iter-piece-iterator.ensures.into_iter_gives ∙ c.words-piece-items.ensures.starts in
+    let i = c.loop-piece.invariant in
+    let ran = c.loop-piece.yielded_by in
+    let ws = text_words c.args.text.now in
+    let t = c.in-Some.ensures.steps in
+    let n : length c.loop-piece.yielded ≡ 64 = sym i.as_many ∙ eqb-true (length c.loop-piece.words.items) 64 (sym c.if-is_full.ensures.value) in
+    found c.args.roll.now c.args.text c.loop-piece.words _ _ _ _ whole begins ran i.few i.as_many i.spelled (there ws _ _ _ whole begins ran _ _ t, n, place ws _ _ _ whole begins ran _ _ t)
 
 pub returns-in-Err-clause-found : goal.returns-in-Err-clause-found
 returns-in-Err-clause-found c =
-    let ws = text_words c.args.text.now in
-    let n = array_vec_len c.loop-piece.words in
-    let t = c.in-Some.ensures in
+    let whole = ap left c.into_iter-piece-iterator.ensures.into_iter_gives ∙ c.words-piece-items.ensures.value in
+    let begins = ap start c.into_iter-piece-iterator.ensures.into_iter_gives ∙ c.words-piece-items.ensures.starts in
     let i = c.loop-piece.invariant in
+    let ran = c.loop-piece.yielded_by in
+    let ws = text_words c.args.text.now in
+    let t = c.in-Some.ensures.steps in
     let f = c.in-Err.ensures in
-    let e = c.is_full.ensures.value in
-    let few : n < 64 = grind arith in
-    record {
-      few = i.few;
-      within = i.within;
-      spelled = i.spelled;
-      stops = (took_there ws n t i.rest i.begins, few, f.0 ∙ took_at ws n t i.rest i.begins, subst (λ b. Wrong c.args.roll.now b c.in-Err.fault.cause) (sym (took_word ws n t i.rest i.begins)) f.1);
-    }
+    let room = c.is_full.ensures.value in
+    let n : length c.loop-piece.yielded < 64 = grind arith in
+    found c.args.roll.now c.args.text c.loop-piece.words _ _ _ _ whole begins ran i.few i.as_many i.spelled (
+      there ws _ _ _ whole begins ran _ _ t,
+      n,
+      f.0 ∙ place ws _ _ _ whole begins ran _ _ t,
+      subst (λ b. Wrong c.args.roll.now b c.in-Err.fault.cause) (sym (word ws _ _ _ whole begins ran _ _ t)) f.1,
+    )
 
 pub loop-piece-preserved : goal.loop-piece-preserved
 loop-piece-preserved c =
-    let ws = text_words c.args.text.now in
-    let n = array_vec_len c.loop-piece.words in
-    let t = c.in-Some.ensures in
-    let i = c.loop-piece.invariant in
     let p = c.push.ensures in
-    let e = c.is_full.ensures.value in
-    let few : n < 64 = grind arith in
-    let there = took_there ws n t i.rest i.begins in
-    record {
-      few = omega (arith, p.len, few);
-      within = omega (arith, p.len, there);
-      spelled = subst (λ l. EachSpells c.args.roll.now l (take (length l) ws)) (sym p.items) (each_more c.args.roll.now c.loop-piece.words.items c.in-Ok.word ws _ there (took_word ws n t i.rest i.begins) i.spelled c.in-Ok.ensures);
-      rest = subst (λ k. drop k ws ≡ left c.next.new.self) (sym p.len) (took_on ws n t i.rest i.begins);
-      begins = subst (λ k. (left c.next.new.self ≡ [] → ⊥) → start c.next.new.self ≡ start_of k ws) (sym p.len) (took_next ws n t i.rest i.begins);
-    }
-
-pub returns-clause-found : goal.returns-clause-found
-returns-clause-found c =
     let i = c.loop-piece.invariant in
-    record { few = i.few; within = i.within; spelled = i.spelled; stops = omega (arith, i.within, step_end (array_vec_len c.loop-piece.words) (text_words c.args.text.now) _ i.rest c.in_default.ensures.0) }
+    let room = c.is_full.ensures.value in
+    let n : length c.loop-piece.words.items < 64 = grind arith in
+    record {
+      few = omega (arith, p.len, n);
+      as_many = omega (arith, p.len, i.as_many, length-append c.loop-piece.yielded (c.in-Some.piece ∷ []));
+      spelled = rw (p.items, map-append) (each_push c.args.roll.now c.loop-piece.words.items (bytes c.loop-piece.yielded) c.in-Ok.word c.in-Some.piece.bytes.now i.spelled c.in-Ok.ensures);
+    }
