@@ -11,28 +11,19 @@ use Rattle.roll.proofs.Walks.{place_word}
 use Rattle.policy_words.specs.Tree.{Formula, words}
 use Rattle.policy_words.specs.declared.word.Word.{Word}
 use Rattle.policy_words.specs.declared.word.Word.TheVariants as W
-use Rattle.policy_reader.specs.Spell.{Operand, Numbered}
+use Rattle.policy_reader.specs.Spell.{IsOperand, Numbered}
 use Rattle.policy_reader.specs.Told.{EachSpells, Told, Below, EachBelow}
 
 number_below : (r : Roll) (list : List) (o : Seq ℕ) (n : ℕ) → Numbered r list o n → n < min 65 (length (words_of r list))
-number_below r list o n h = omega (arith, (place_word (numbered (text_of r list)) o n h.1).0, length-take 64 (words_of r list))
+number_below r list o n h = omega (arith, (place_word (numbered (text_of r list)) o n h.is).0, length-take 64 (words_of r list))
 
-below : (r : Roll) (w : Word) (o : Seq ℕ) → Operand r w o → Below (counts_of r) w
+below : (r : Roll) (w : Word) (o : Seq ℕ) → IsOperand r w o → Below (counts_of r) w
 below r (W.Name n) o h = number_below r Names o n h
-below r (W.Letter v) o h = tt
-below r (W.Mark n) o h = number_below r Marks o n h
-below r W.Not o h = tt
-below r W.And o h = tt
-below r W.Or o h = tt
-below r (W.AtLetter v) o h = tt
 below r (W.AtName n) o h = number_below r Names o n h
-below r (W.Bind v) o h = tt
-below r W.Follow o h = tt
+below r (W.Mark n) o h = number_below r Marks o n h
 below r (W.Forward n) o h = number_below r Labels o n h
 below r (W.Backward n) o h = number_below r Labels o n h
-below r W.Seq o h = tt
-below r W.Plus o h = tt
-below r W.Stay o h = tt
+below r _ o h = tt
 
 all_below : (r : Roll) (vs : Seq Word) (bs : Seq (Seq ℕ)) → EachSpells r vs bs → EachBelow (counts_of r) vs
 all_below r [] bs h = tt

@@ -1,5 +1,5 @@
 -- For every roll and every text exactly one answer is to be told.
-use Rattle.std.proofs.Common.{◌≡◌, ℕ, ◌+◌, ◌<◌, ◌≤◌, List, [], ◌∷◌, ◌++◌, length, get_or, take, drop, Ok, Err, Result, sym, refl, ap, ◌∙◌, subst, inl, inr, append_assoc, append-nil, arith, take-append-drop}
+use Rattle.std.proofs.Common.{◌≡◌, ℕ, ◌+◌, ◌<◌, ◌≤◌, ◌⊎◌, List, [], ◌∷◌, ◌++◌, length, get_or, take, drop, Ok, Err, Result, sym, refl, ap, ◌∙◌, subst, inl, inr, append_assoc, append-nil, arith, take-append-drop}
 use Rattle.std.proofs.lemmas.List.{take_more, take_all, get_or-take, length-take-le, take-take}
 use Rattle.std.proofs.lemmas.Bool.{cases_lt}
 use Rattle.text.specs.Text.{words as text_words, start_of}
@@ -14,7 +14,8 @@ use Rattle.policy.specs.Anchor.{Anchored, Stray}
 use Rattle.policy.specs.declared.policy.Policy.{Policy}
 use Rattle.policy.proofs.Places.{anchored_nowhere}
 use Rattle.policy_reader.specs.Spell.{Spells, Wrong}
-use Rattle.policy_reader.specs.Told.{EachSpells, Told, Gave}
+use Rattle.policy_reader.specs.Told.{EachSpells, Reaches, Told, Gave}
+use Rattle.policy_reader.specs.declared.fault.Cause.{Cause}
 use Rattle.policy_reader.specs.declared.fault.PolicyFault.{PolicyFault}
 use Rattle.policy_reader.specs.declared.fault.PolicyFault.TheVariants as P
 use Rattle.policy_reader.proofs.OneWord.{spells_one, wrong_spells, wrong_one}
@@ -71,139 +72,110 @@ module _ (r : Roll) (t : List ℕ) where
   same_words : (k j : ℕ) (vs us : List Word) → Halt k vs → Halt j us → vs ≡ us
   same_words k j vs us a b = each_one r vs us (take k ws) a.before (subst (λ n. EachSpells r us (take n ws)) (sym (same_place k j vs us a b)) b.before)
 
-  -- what is told where the first k words vs are read
-  abbrev Case : ℕ → List Word → Result Formula PolicyFault → Type 0
-  Case k vs (Ok f) = (k ≡ length ws) × (vs ≡ words f) × Closed f × Anchored f
-  Case k vs (Err (P.After n)) = (k < length ws) × (n ≡ start_of k ws) × Whole vs
-  Case k vs (Err (P.TooMany n)) = (k < length ws) × (n ≡ start_of k ws) × (k ≡ 64) × Unfinished vs
-  Case k vs (Err (P.Word f)) = (k < length ws) × (f.at ≡ start_of k ws) × (k < 64) × Unfinished vs × Wrong r (get_or ws k []) f.cause
-  Case k vs (Err (P.Kind n)) = (k < length ws) × (n ≡ start_of k ws) × (k < 64) × Unfinished vs × ((w : Word) × Spells r w (get_or ws k []))
-  Case k vs (Err (P.Short n)) = (k ≡ length ws) × Unfinished vs × (n ≡ length t)
-  Case k vs (Err (P.Loose n)) = (k ≡ length ws) × ((f : Formula) × (j : ℕ) × (vs ≡ words f) × First (Loose given f) j × (n ≡ start_of j ws))
-  Case k vs (Err (P.Unanchored n)) = (k ≡ length ws) × ((f : Formula) × (j : ℕ) × (vs ≡ words f) × Closed f × First (Stray f) j × (n ≡ start_of j ws))
+  abbrev Answer : Type 0
+  Answer = Result Formula PolicyFault
 
-  record At (x : Result Formula PolicyFault) : Type 0 where
+  -- word k is due: it is the 65th, is faulty by itself, or is of the wrong kind
+  abbrev Due : ℕ → Answer → Type 0
+  Due k x =
+      ((k ≡ 64) × (x ≡ Err (P.TooMany (start_of k ws))))
+      ⊎ ((k < 64) × (((c : Cause) × Wrong r (get_or ws k []) c × (x ≡ Err (P.Word record { cause = c; at = start_of k ws }))) ⊎ ((w : Word) × Spells r w (get_or ws k []) × (x ≡ Err (P.Kind (start_of k ws))))))
+
+  -- the text goes on with word k after the words vs: the formula is finished, or not
+  abbrev More : ℕ → List Word → Answer → Type 0
+  More k vs x = (Whole vs × (x ≡ Err (P.After (start_of k ws)))) ⊎ (Unfinished vs × Due k x)
+
+  -- the formula is closed: a word keeps it from being anchored, or none
+  abbrev Anchors : Formula → Answer → Type 0
+  Anchors f x = ((j : ℕ) × First (Stray f) j × (x ≡ Err (P.Unanchored (start_of j ws)))) ⊎ (Anchored f × (x ≡ Ok f))
+
+  -- the text spells the formula: a word is loose, or none
+  abbrev Letters : Formula → Answer → Type 0
+  Letters f x = ((j : ℕ) × First (Loose given f) j × (x ≡ Err (P.Loose (start_of j ws)))) ⊎ (Closed f × Anchors f x)
+
+  -- the text is over after the words vs: the formula is not finished, or it is
+  abbrev Over : List Word → Answer → Type 0
+  Over vs x = (Unfinished vs × (x ≡ Err (P.Short (length t)))) ⊎ ((f : Formula) × (vs ≡ words f) × Letters f x)
+
+  -- what is told where the first k words vs are read
+  abbrev Case : ℕ → List Word → Answer → Type 0
+  Case k vs x = ((k < length ws) × More k vs x) ⊎ ((k ≡ length ws) × Over vs x)
+
+  record At (x : Answer) : Type 0 where
     k : ℕ
     vs : List Word
     halt : Halt k vs
     is : Case k vs x
 
-  end_halt : (vs : List Word) → EachSpells r vs ws → length ws ≤ 64 → Begins vs → Halt (length ws) vs
-  end_halt vs h le b = record { before = subst (EachSpells r vs) (sym (take_all (length ws) ws (omega arith))) h; within = omega arith; few = le; begun = b; stuck = λ w lt. absurd (omega arith) }
-
-  at : (x : Result Formula PolicyFault) → Told r t x → At x
-  at (Ok f) h = record { k = length ws; vs = words f; halt = end_halt (words f) h.0.0 h.0.1 (whole_begins (words f) (f, refl)); is = (refl, refl, h.1, h.2) }
-  at (Err (P.After n)) h = record {
-    k = h.0;
-    vs = h.1;
-    halt = record { before = h.2.before; within = omega (arith, h.2.there); few = h.3; begun = whole_begins h.1 h.4; stuck = λ w lt le s b. prefix_free h.4.0 b.0 w b.1 (b.2 ∙ append_assoc h.1 (w ∷ []) b.1 ∙ ap (λ l. l ++ w ∷ b.1) (sym h.4.1)) };
-    is = (h.2.there, h.2.place, h.4);
+  at_word : (k n : ℕ) (vs : List Word) (x : Answer) → Reaches r t k n vs → k ≤ 64 → Begins vs → ((w : Word) → k < 64 → Spells r w (get_or ws k []) → Begins (vs ++ w ∷ []) → ⊥) → (n ≡ start_of k ws → More k vs x) → At x
+  at_word k n vs x h le b stop more = record {
+    k = k;
+    vs = vs;
+    halt = record { before = h.before; within = omega (arith, h.there); few = le; begun = b; stuck = λ w _. stop w };
+    is = inl (h.there, more h.place);
   }
-  at (Err (P.TooMany n)) h = record {
-    k = h.0;
-    vs = h.1;
-    halt = record { before = h.2.before; within = omega (arith, h.2.there); few = omega (arith, h.3); begun = open_begins h.1 h.4; stuck = λ w lt le s b. absurd (omega (arith, h.3)) };
-    is = (h.2.there, h.2.place, h.3, h.4);
+
+  at_end : (vs : List Word) (x : Answer) → EachSpells r vs ws → length ws ≤ 64 → Begins vs → Over vs x → At x
+  at_end vs x h le b over = record {
+    k = length ws;
+    vs = vs;
+    halt = record { before = subst (EachSpells r vs) (sym (take_all (length ws) ws (omega arith))) h; within = omega arith; few = le; begun = b; stuck = λ w lt. absurd (omega arith) };
+    is = inr (refl, over);
   }
-  at (Err (P.Word f)) h = record {
-    k = h.0;
-    vs = h.1;
-    halt = record { before = h.2.before; within = omega (arith, h.2.there); few = omega (arith, h.3); begun = open_begins h.1 h.4; stuck = λ w lt le s b. wrong_spells r _ f.cause w h.5 s };
-    is = (h.2.there, h.2.place, h.3, h.4, h.5);
-  }
-  at (Err (P.Kind n)) h = record {
-    k = h.0;
-    vs = h.1;
-    halt = record { before = h.2.before; within = omega (arith, h.2.there); few = omega (arith, h.3); begun = open_begins h.1 h.4; stuck = λ w lt le s b. h.5.2 (subst (λ v. Begins (h.1 ++ v ∷ [])) (spells_one r w h.5.0 _ s h.5.1) b) };
-    is = (h.2.there, h.2.place, h.3, h.4, (h.5.0, h.5.1));
-  }
-  at (Err (P.Short n)) h = record { k = length ws; vs = h.0; halt = end_halt h.0 h.1 h.2 (open_begins h.0 h.3); is = (refl, h.3, h.4) }
-  at (Err (P.Loose n)) h = record { k = length ws; vs = words h.0; halt = end_halt (words h.0) h.2.0 h.2.1 (whole_begins (words h.0) (h.0, refl)); is = (refl, (h.0, h.1, refl, h.3, h.4)) }
-  at (Err (P.Unanchored n)) h = record { k = length ws; vs = words h.0; halt = end_halt (words h.0) h.2.0 h.2.1 (whole_begins (words h.0) (h.0, refl)); is = (refl, (h.0, h.1, refl, h.3, h.4, h.5)) }
 
-  one_formula : (vs : List Word) (f g : Formula) → vs ≡ words f → vs ≡ words g → f ≡ g
-  one_formula vs f g a b = one_tree f g (sym a ∙ b)
+  at : (x : Answer) → Told r t x → At x
+  at (Ok f) h = at_end (words f) (Ok f) h.0.0 h.0.1 (whole_begins (words f) (f, refl)) (inr (f, refl, inr (h.1, inr (h.2, refl))))
+  at (Err (P.After n)) h =
+      at_word h.0 n h.1 _ h.2 h.3 (whole_begins h.1 h.4)
+      (λ w lt s b. prefix_free h.4.0 b.0 w b.1 (b.2 ∙ append_assoc h.1 (w ∷ []) b.1 ∙ ap (λ l. l ++ w ∷ b.1) (sym h.4.1)))
+      (λ e. inl (h.4, ap (λ i. Err (P.After i)) e))
+  at (Err (P.TooMany n)) h =
+      at_word h.0 n h.1 _ h.2 (omega (arith, h.3)) (open_begins h.1 h.4)
+      (λ w lt. absurd (omega (arith, h.3)))
+      (λ e. inr (h.4, inl (h.3, ap (λ i. Err (P.TooMany i)) e)))
+  at (Err (P.Word f)) h =
+      at_word h.0 f.at h.1 _ h.2 (omega (arith, h.3)) (open_begins h.1 h.4)
+      (λ w lt s b. wrong_spells r _ f.cause w h.5 s)
+      (λ e. inr (h.4, inr (h.3, inl (f.cause, h.5, ap (λ i. Err (P.Word record { cause = f.cause; at = i })) e))))
+  at (Err (P.Kind n)) h =
+      at_word h.0 n h.1 _ h.2 (omega (arith, h.3)) (open_begins h.1 h.4)
+      (λ w lt s b. h.5.2 (subst (λ v. Begins (h.1 ++ v ∷ [])) (spells_one r w h.5.0 _ s h.5.1) b))
+      (λ e. inr (h.4, inr (h.3, inr (h.5.0, h.5.1, ap (λ i. Err (P.Kind i)) e))))
+  at (Err (P.Short n)) h = at_end h.0 _ h.1 h.2 (open_begins h.0 h.3) (inl (h.3, ap (λ i. Err (P.Short i)) h.4))
+  at (Err (P.Loose n)) h = at_end (words h.0) _ h.2.0 h.2.1 (whole_begins (words h.0) (h.0, refl)) (inr (h.0, refl, inl (h.1, h.3, ap (λ i. Err (P.Loose i)) h.4)))
+  at (Err (P.Unanchored n)) h = at_end (words h.0) _ h.2.0 h.2.1 (whole_begins (words h.0) (h.0, refl)) (inr (h.0, refl, inr (h.3, inl (h.1, h.4, ap (λ i. Err (P.Unanchored i)) h.5))))
 
-  loose_open : (vs : List Word) (f g : Formula) (j : ℕ) → vs ≡ words f → vs ≡ words g → First (Loose given f) j → Closed g → ⊥
-  loose_open vs f g j a b l c = c j (subst (λ h. Loose given h j) (one_formula vs f g a b) l.0)
+  -- two alternatives that exclude each other, each with one answer
+  apart : {A B : Answer → Type 0} → ((x y : Answer) → A x → A y → x ≡ y) → ((x y : Answer) → B x → B y → x ≡ y) → ((x y : Answer) → A x → B y → ⊥) → (x y : Answer) → A x ⊎ B x → A y ⊎ B y → x ≡ y
+  apart one_a one_b never x y g h =
+      elim g [
+        | inl a ↦ elim h [ inl c ↦ one_a x y a c | inr d ↦ absurd (never x y a d) ]
+        | inr b ↦ elim h [ inl c ↦ absurd (never y x c b) | inr d ↦ one_b x y b d ]
+      ]
 
-  stray_open : (vs : List Word) (f g : Formula) (j : ℕ) → vs ≡ words f → vs ≡ words g → First (Stray f) j → Anchored g → ⊥
-  stray_open vs f g j a b l c = anchored_nowhere g c j (subst (λ h. Stray h j) (one_formula vs f g a b) l.0)
+  one_due : (k : ℕ) (x y : Answer) → Due k x → Due k y → x ≡ y
+  one_due k x y a b = grind (arith, wrong_one, wrong_spells)
 
-  one_first : (P : Formula → ℕ → Type 0) (f g : Formula) (i j : ℕ) → f ≡ g → First (P f) i → First (P g) j → i ≡ j
-  one_first P f g i j e a b = let c = subst (λ h. First (P h) i) e a in omega (arith, c.1 j b.0, b.1 i c.0)
+  one_more : (k : ℕ) (vs : List Word) (x y : Answer) → More k vs x → More k vs y → x ≡ y
+  one_more k vs = apart (λ x y a b. a.1 ∙ sym b.1) (λ x y a b. one_due k x y a.1 b.1) (λ x y a b. whole_open vs a.0 b.0)
 
-  agree : (k : ℕ) (vs : List Word) (x y : Result Formula PolicyFault) → Case k vs x → Case k vs y → x ≡ y
-  agree k vs (Err (P.After m)) (Err (P.After n)) a b = ap (λ i. Err (P.After i)) (a.1 ∙ sym b.1)
-  agree k vs (Err (P.After m)) (Err (P.TooMany n)) a b = absurd (whole_open vs a.2 b.3)
-  agree k vs (Err (P.After m)) (Err (P.Word n)) a b = absurd (whole_open vs a.2 b.3)
-  agree k vs (Err (P.After m)) (Err (P.Kind n)) a b = absurd (whole_open vs a.2 b.3)
-  agree k vs (Err (P.After m)) (Err (P.Short n)) a b = absurd (omega (arith, a.0, b.0))
-  agree k vs (Err (P.After m)) (Err (P.Loose n)) a b = absurd (omega (arith, a.0, b.0))
-  agree k vs (Err (P.After m)) (Err (P.Unanchored n)) a b = absurd (omega (arith, a.0, b.0))
-  agree k vs (Err (P.After m)) (Ok n) a b = absurd (omega (arith, a.0, b.0))
-  agree k vs (Err (P.TooMany m)) (Err (P.After n)) a b = absurd (whole_open vs b.2 a.3)
-  agree k vs (Err (P.TooMany m)) (Err (P.TooMany n)) a b = ap (λ i. Err (P.TooMany i)) (a.1 ∙ sym b.1)
-  agree k vs (Err (P.TooMany m)) (Err (P.Word n)) a b = absurd (omega (arith, a.2, b.2))
-  agree k vs (Err (P.TooMany m)) (Err (P.Kind n)) a b = absurd (omega (arith, a.2, b.2))
-  agree k vs (Err (P.TooMany m)) (Err (P.Short n)) a b = absurd (omega (arith, a.0, b.0))
-  agree k vs (Err (P.TooMany m)) (Err (P.Loose n)) a b = absurd (omega (arith, a.0, b.0))
-  agree k vs (Err (P.TooMany m)) (Err (P.Unanchored n)) a b = absurd (omega (arith, a.0, b.0))
-  agree k vs (Err (P.TooMany m)) (Ok n) a b = absurd (omega (arith, a.0, b.0))
-  agree k vs (Err (P.Word m)) (Err (P.After n)) a b = absurd (whole_open vs b.2 a.3)
-  agree k vs (Err (P.Word m)) (Err (P.TooMany n)) a b = absurd (omega (arith, a.2, b.2))
-  agree k vs (Err (P.Word m)) (Err (P.Word n)) a b = λ i. Err (P.Word record { cause = wrong_one r (get_or ws k []) m.cause n.cause a.4 b.4 i; at = (a.1 ∙ sym b.1) i })
-  agree k vs (Err (P.Word m)) (Err (P.Kind n)) a b = absurd (wrong_spells r (get_or ws k []) m.cause b.4.0 a.4 b.4.1)
-  agree k vs (Err (P.Word m)) (Err (P.Short n)) a b = absurd (omega (arith, a.0, b.0))
-  agree k vs (Err (P.Word m)) (Err (P.Loose n)) a b = absurd (omega (arith, a.0, b.0))
-  agree k vs (Err (P.Word m)) (Err (P.Unanchored n)) a b = absurd (omega (arith, a.0, b.0))
-  agree k vs (Err (P.Word m)) (Ok n) a b = absurd (omega (arith, a.0, b.0))
-  agree k vs (Err (P.Kind m)) (Err (P.After n)) a b = absurd (whole_open vs b.2 a.3)
-  agree k vs (Err (P.Kind m)) (Err (P.TooMany n)) a b = absurd (omega (arith, a.2, b.2))
-  agree k vs (Err (P.Kind m)) (Err (P.Word n)) a b = absurd (wrong_spells r (get_or ws k []) n.cause a.4.0 b.4 a.4.1)
-  agree k vs (Err (P.Kind m)) (Err (P.Kind n)) a b = ap (λ i. Err (P.Kind i)) (a.1 ∙ sym b.1)
-  agree k vs (Err (P.Kind m)) (Err (P.Short n)) a b = absurd (omega (arith, a.0, b.0))
-  agree k vs (Err (P.Kind m)) (Err (P.Loose n)) a b = absurd (omega (arith, a.0, b.0))
-  agree k vs (Err (P.Kind m)) (Err (P.Unanchored n)) a b = absurd (omega (arith, a.0, b.0))
-  agree k vs (Err (P.Kind m)) (Ok n) a b = absurd (omega (arith, a.0, b.0))
-  agree k vs (Err (P.Short m)) (Err (P.After n)) a b = absurd (omega (arith, a.0, b.0))
-  agree k vs (Err (P.Short m)) (Err (P.TooMany n)) a b = absurd (omega (arith, a.0, b.0))
-  agree k vs (Err (P.Short m)) (Err (P.Word n)) a b = absurd (omega (arith, a.0, b.0))
-  agree k vs (Err (P.Short m)) (Err (P.Kind n)) a b = absurd (omega (arith, a.0, b.0))
-  agree k vs (Err (P.Short m)) (Err (P.Short n)) a b = ap (λ i. Err (P.Short i)) (a.2 ∙ sym b.2)
-  agree k vs (Err (P.Short m)) (Err (P.Loose n)) a b = absurd (whole_open vs (b.1.0, sym b.1.2) a.1)
-  agree k vs (Err (P.Short m)) (Err (P.Unanchored n)) a b = absurd (whole_open vs (b.1.0, sym b.1.2) a.1)
-  agree k vs (Err (P.Short m)) (Ok n) a b = absurd (whole_open vs (n, sym b.1) a.1)
-  agree k vs (Err (P.Loose m)) (Err (P.After n)) a b = absurd (omega (arith, a.0, b.0))
-  agree k vs (Err (P.Loose m)) (Err (P.TooMany n)) a b = absurd (omega (arith, a.0, b.0))
-  agree k vs (Err (P.Loose m)) (Err (P.Word n)) a b = absurd (omega (arith, a.0, b.0))
-  agree k vs (Err (P.Loose m)) (Err (P.Kind n)) a b = absurd (omega (arith, a.0, b.0))
-  agree k vs (Err (P.Loose m)) (Err (P.Short n)) a b = absurd (whole_open vs (a.1.0, sym a.1.2) b.1)
-  agree k vs (Err (P.Loose m)) (Err (P.Loose n)) a b = ap (λ i. Err (P.Loose i)) (a.1.4 ∙ ap (λ i. start_of i ws) (one_first (Loose given) a.1.0 b.1.0 a.1.1 b.1.1 (one_formula vs _ _ a.1.2 b.1.2) a.1.3 b.1.3) ∙ sym b.1.4)
-  agree k vs (Err (P.Loose m)) (Err (P.Unanchored n)) a b = absurd (loose_open vs a.1.0 b.1.0 a.1.1 a.1.2 b.1.2 a.1.3 b.1.3)
-  agree k vs (Err (P.Loose m)) (Ok n) a b = absurd (loose_open vs a.1.0 n a.1.1 a.1.2 b.1 a.1.3 b.2)
-  agree k vs (Err (P.Unanchored m)) (Err (P.After n)) a b = absurd (omega (arith, a.0, b.0))
-  agree k vs (Err (P.Unanchored m)) (Err (P.TooMany n)) a b = absurd (omega (arith, a.0, b.0))
-  agree k vs (Err (P.Unanchored m)) (Err (P.Word n)) a b = absurd (omega (arith, a.0, b.0))
-  agree k vs (Err (P.Unanchored m)) (Err (P.Kind n)) a b = absurd (omega (arith, a.0, b.0))
-  agree k vs (Err (P.Unanchored m)) (Err (P.Short n)) a b = absurd (whole_open vs (a.1.0, sym a.1.2) b.1)
-  agree k vs (Err (P.Unanchored m)) (Err (P.Loose n)) a b = absurd (loose_open vs b.1.0 a.1.0 b.1.1 b.1.2 a.1.2 b.1.3 a.1.3)
-  agree k vs (Err (P.Unanchored m)) (Err (P.Unanchored n)) a b = ap (λ i. Err (P.Unanchored i)) (a.1.5 ∙ ap (λ i. start_of i ws) (one_first Stray a.1.0 b.1.0 a.1.1 b.1.1 (one_formula vs _ _ a.1.2 b.1.2) a.1.4 b.1.4) ∙ sym b.1.5)
-  agree k vs (Err (P.Unanchored m)) (Ok n) a b = absurd (stray_open vs a.1.0 n a.1.1 a.1.2 b.1 a.1.4 b.3)
-  agree k vs (Ok m) (Err (P.After n)) a b = absurd (omega (arith, a.0, b.0))
-  agree k vs (Ok m) (Err (P.TooMany n)) a b = absurd (omega (arith, a.0, b.0))
-  agree k vs (Ok m) (Err (P.Word n)) a b = absurd (omega (arith, a.0, b.0))
-  agree k vs (Ok m) (Err (P.Kind n)) a b = absurd (omega (arith, a.0, b.0))
-  agree k vs (Ok m) (Err (P.Short n)) a b = absurd (whole_open vs (m, sym a.1) b.1)
-  agree k vs (Ok m) (Err (P.Loose n)) a b = absurd (loose_open vs b.1.0 m b.1.1 b.1.2 a.1 b.1.3 a.2)
-  agree k vs (Ok m) (Err (P.Unanchored n)) a b = absurd (stray_open vs b.1.0 m b.1.1 b.1.2 a.1 b.1.4 a.3)
-  agree k vs (Ok m) (Ok n) a b = ap Ok (one_formula vs m n a.1 b.1)
+  one_anchors : (f : Formula) (x y : Answer) → Anchors f x → Anchors f y → x ≡ y
+  one_anchors f x y a b = grind (arith, anchored_nowhere)
+
+  one_letters : (f : Formula) (x y : Answer) → Letters f x → Letters f y → x ≡ y
+  one_letters f = apart (λ x y a b. grind arith) (λ x y a b. one_anchors f x y a.1 b.1) (λ x y a b. b.0 a.0 a.1.0)
+
+  one_over : (vs : List Word) (x y : Answer) → Over vs x → Over vs y → x ≡ y
+  one_over vs = apart (λ x y a b. a.1 ∙ sym b.1) (λ x y a b. one_letters a.0 x y a.2 (subst (λ f. Letters f y) (one_tree b.0 a.0 (sym b.1 ∙ a.1)) b.2)) (λ x y a b. whole_open vs (b.0, sym b.1) a.0)
+
+  one_case : (k : ℕ) (vs : List Word) (x y : Answer) → Case k vs x → Case k vs y → x ≡ y
+  one_case k vs = apart (λ x y a b. one_more k vs x y a.1 b.1) (λ x y a b. one_over vs x y a.1 b.1) (λ x y a b. omega (arith, a.0, b.0))
 
   pub one_answer : (x y : Result Formula PolicyFault) → Told r t x → Told r t y → x ≡ y
   one_answer x y a b =
       let p = at x a in
       let q = at y b in
-      agree p.k p.vs x y p.is (subst (λ l. Case p.k l y) (sym (same_words p.k q.k p.vs q.vs p.halt q.halt)) (subst (λ n. Case n q.vs y) (sym (same_place p.k q.k p.vs q.vs p.halt q.halt)) q.is))
+      one_case p.k p.vs x y p.is (subst (λ l. Case p.k l y) (sym (same_words p.k q.k p.vs q.vs p.halt q.halt)) (subst (λ n. Case n q.vs y) (sym (same_place p.k q.k p.vs q.vs p.halt q.halt)) q.is))
 
   -- what was given is all that is to be told
   pub only_given : (res : Result Policy PolicyFault) → (x : Result Formula PolicyFault) × Gave res x × Told r t x → (y : Result Formula PolicyFault) → Told r t y → Gave res y

@@ -1,7 +1,9 @@
 -- From the words that were found to what is to be told.
-use Rattle.std.proofs.Common.{◌≡◌, ℕ, zero, suc, ◌-◌, ◌<◌, ◌⊎◌, List, [], ◌∷◌, length, get_or, take, Ok, Err, Result, sym, refl, ap, subst, inl, inr, arith, MatchResult}
-use Rattle.std.proofs.lemmas.List.{take_more, take_all, get_or-take, length-take-le, take-take}
+use Rattle.std.proofs.Common.{◌≡◌, ℕ, zero, suc, ◌<◌, List, [], ◌∷◌, length, get_or, take, Ok, Err, Result, Some, None, Option, sym, refl, ap, subst, arith, MatchResult}
+use Rattle.std.proofs.lemmas.List.{take_more, take_all, get_or-take, take-take}
+use Rattle.std.proofs.lemmas.Slice.Zip.{AllZip-long}
 use Rattle.text.specs.Text.{words as text_words, start_of}
+use Rattle.text.specs.declared.word.WordFault.{WordFault}
 use Rattle.roll.specs.declared.roll.Roll.{Roll}
 use Rattle.policy_words.specs.Tree.{Formula, words, Whole, Begins, Unfinished, Allowed}
 use Rattle.policy_words.specs.declared.shape.ShapeFault.{ShapeFault}
@@ -14,22 +16,16 @@ use Rattle.policy.specs.declared.fault.WordsFault.{WordsFault}
 use Rattle.policy.specs.declared.fault.WordsFault.TheVariants as F
 use Rattle.policy.specs.declared.policy.Policy.{Policy}
 use Rattle.policy.proofs.Places.{loose_below, stray_below}
-use Rattle.policy_reader.specs.Spell.{Spells, Operand}
+use Rattle.policy_reader.specs.Spell.{Spells, IsOperand}
 use Rattle.policy_reader.specs.Told.{EachSpells, Spelled, Reaches, Told, Gave}
 use Rattle.policy_reader.specs.Found.{Finds, Stops}
 use Rattle.policy_reader.specs.Ends.{after_fault, short_fault, ShapeRefused, Refused}
+use Rattle.policy_reader.specs.declared.fault.Cause.{Cause}
 use Rattle.policy_reader.specs.declared.found.Found.{Found}
-use Rattle.policy_reader.specs.declared.found.Rest.{Rest}
-use Rattle.policy_reader.specs.declared.found.Rest.TheVariants.{Over, More}
-use Rattle.policy_reader.specs.declared.fault.WordFault.{WordFault}
 use Rattle.policy_reader.specs.declared.fault.PolicyFault.{PolicyFault}
-use Rattle.policy_reader.specs.declared.fault.PolicyFault.TheVariants as P
 
 pub each_length : (r : Roll) (vs : List Word) (bs : List (List ℕ)) → EachSpells r vs bs → length vs ≡ length bs
-each_length r [] [] h = refl
-each_length r [] (b ∷ bs) h = absurd h
-each_length r (v ∷ vs) [] h = absurd h
-each_length r (v ∷ vs) (b ∷ bs) h = ap suc (each_length r vs bs h.1)
+each_length r vs bs h = sym (AllZip-long (Spells r) vs bs h)
 
 pub each_take : (r : Roll) (vs : List Word) (bs : List (List ℕ)) (k : ℕ) → EachSpells r vs bs → EachSpells r (take k vs) (take k bs)
 each_take r [] [] zero h = tt
@@ -45,116 +41,71 @@ each_at r (v ∷ vs) [] k h lt = absurd h
 each_at r (v ∷ vs) (b ∷ bs) zero h lt = h.0
 each_at r (v ∷ vs) (b ∷ bs) (suc k) h lt = each_at r vs bs k h.1 (omega arith)
 
-operand-allowed : (r : Roll) (w : Word) (o : List ℕ) → Operand r w o → Allowed w
-operand-allowed r (W.Name n) o h = h.2
-operand-allowed r (W.Letter v) o h = tt
-operand-allowed r (W.Mark n) o h = h.2
-operand-allowed r W.Not o h = tt
-operand-allowed r W.And o h = tt
-operand-allowed r W.Or o h = tt
-operand-allowed r (W.AtLetter v) o h = tt
-operand-allowed r (W.AtName n) o h = h.2
-operand-allowed r (W.Bind v) o h = h.0
-operand-allowed r W.Follow o h = tt
-operand-allowed r (W.Forward n) o h = h.2
-operand-allowed r (W.Backward n) o h = h.2
-operand-allowed r W.Seq o h = tt
-operand-allowed r W.Plus o h = tt
-operand-allowed r W.Stay o h = tt
+operand-allowed : (r : Roll) (w : Word) (o : List ℕ) → IsOperand r w o → Allowed w
+operand-allowed r w o h = grind arith
 
--- the first part of a list of words
-pub front : (n : ℕ) (l : List Word) → take (n - 0) l ≡ take n l
-front n l = ap (λ k. take k l) (omega arith)
+module _ (r : Roll) (x : Found) (fd : Finds r x) where
+  abbrev t : List ℕ
+  t = x.text.now
 
-module _ (r : Roll) (t : List ℕ) (x : Found) (fd : Finds r t x) where
   abbrev ws : List (List ℕ)
   ws = text_words t
 
   abbrev vs : List Word
-  vs = take x.len x.words
+  vs = x.words.items
 
-  long : length vs ≡ x.len
-  long = length-take-le x.len x.words (omega (arith, fd.few, fd.long))
-
-  reach : (k : ℕ) → k < x.len → Reaches r t k (start_of k ws) (take k vs)
+  reach : (k : ℕ) → k < length vs → Reaches r t k (start_of k ws) (take k vs)
   reach k lt = record {
     there = omega (arith, fd.within);
     place = refl;
-    before = subst (EachSpells r (take k vs)) (take-take k x.len ws (omega arith)) (each_take r vs (take x.len ws) k fd.spelled);
+    before = subst (EachSpells r (take k vs)) (take-take k (length vs) ws (omega arith)) (each_take r vs (take (length vs) ws) k fd.spelled);
   }
 
-  reach_all : (n : ℕ) → x.len < length ws → n ≡ start_of x.len ws → Reaches r t x.len n vs
+  reach_all : (n : ℕ) → length vs < length ws → n ≡ start_of (length vs) ws → Reaches r t (length vs) n vs
   reach_all n lt e = record { there = lt; place = e; before = fd.spelled }
 
-  all_spelled : x.len ≡ length ws → EachSpells r vs ws
-  all_spelled e = subst (EachSpells r vs) (take_all x.len ws (omega arith)) fd.spelled
+  all_spelled : length vs ≡ length ws → EachSpells r vs ws
+  all_spelled e = subst (EachSpells r vs) (take_all (length vs) ws (omega arith)) fd.spelled
 
-  word_spelled : (k : ℕ) → k < x.len → Spells r (get_or vs k (W.Name 0)) (get_or ws k [])
-  word_spelled k lt = subst (Spells r (get_or vs k (W.Name 0))) (get_or-take x.len ws k [] lt) (each_at r vs (take x.len ws) k fd.spelled (omega (arith, long)))
+  word_spelled : (k : ℕ) → k < length vs → Spells r (get_or vs k (W.Name 0)) (get_or ws k [])
+  word_spelled k lt = subst (Spells r (get_or vs k (W.Name 0))) (get_or-take (length vs) ws k [] lt) (each_at r vs (take (length vs) ws) k fd.spelled (omega arith))
 
-  to_err : (e : PolicyFault) (res : Result Policy PolicyFault) → res ≡ Err e → Told r t (Err e) → (y : Result Formula PolicyFault) × Gave res y × Told r t y
+  -- an answer that is to be told was given
+  abbrev Answered : Result Policy PolicyFault → Type 0
+  Answered res = (y : Result Formula PolicyFault) × Gave res y × Told r t y
+
+  to_err : (e : PolicyFault) (res : Result Policy PolicyFault) → res ≡ Err e → Told r t (Err e) → Answered res
   to_err e res h told = (Err e, subst (λ z. Gave z (Err e)) (sym h) refl, told)
 
-  -- words that are a whole formula, where the text goes on
-  whole_then : (stop : Result Rest WordFault) → Stops r ws x.len stop → Whole vs → (e : PolicyFault) → after_fault stop ≡ Err e → Told r t (Err e)
-  whole_then (Ok Over) s w e h = let z : ◌≡◌ {A = ℕ} 0 1 = cc in absurd (omega arith)
-  whole_then (Ok (More at)) s w e h =
-      let same : P.After at ≡ e = cc in
-      subst (λ y. Told r t (Err y)) same (x.len, vs, reach_all at s.0 s.2, fd.few, w)
-  whole_then (Err f) s w e h =
-      let same : P.After f.at ≡ e = cc in
-      subst (λ y. Told r t (Err y)) same (x.len, vs, reach_all f.at s.0 s.2, fd.few, w)
+  -- the words are a whole formula: the text goes on, or it is over
+  whole_told : (stop : Result (Option ℕ) (WordFault Cause)) → Stops r ws (length vs) stop → Whole vs → (res : Result Policy PolicyFault) (Q : Type 0) → MatchResult (after_fault stop) (λ _. Q) (λ e. res ≡ Err e) → (length vs ≡ length ws → Q → Answered res) → Answered res
+  whole_told (Ok None) s w res Q c over = over s c
+  whole_told (Ok (Some at)) s w res Q c over = to_err _ res c (length vs, vs, reach_all at s.0 s.2, fd.few, w)
+  whole_told (Err f) s w res Q c over = to_err _ res c (length vs, vs, reach_all f.at s.0 s.2, fd.few, w)
 
-  whole_end : (stop : Result Rest WordFault) → Stops r ws x.len stop → after_fault stop ≡ Ok tt → x.len ≡ length ws
-  whole_end (Ok Over) s h = s
-  whole_end (Ok (More at)) s h = let z : ◌≡◌ {A = ℕ} 0 1 = cc in absurd (omega arith)
-  whole_end (Err f) s h = let z : ◌≡◌ {A = ℕ} 0 1 = cc in absurd (omega arith)
-
-  spelled_end : (f : Formula) → words f ≡ vs → x.len ≡ length ws → Spelled r t f
+  spelled_end : (f : Formula) → words f ≡ vs → length vs ≡ length ws → Spelled r t f
   spelled_end f e h = (subst (λ l. EachSpells r l ws) (sym e) (all_spelled h), omega (arith, fd.few))
 
-  -- words that begin a formula that has more
-  open_end : (stop : Result Rest WordFault) → Stops r ws x.len stop → Unfinished vs → Told r t (Err (short_fault (length t) stop))
-  open_end (Ok Over) s u = (vs, all_spelled s, omega (arith, fd.few), u, refl)
-  open_end (Ok (More at)) s u = (x.len, vs, reach_all at s.0 s.2, s.1, u)
-  open_end (Err f) s u = (x.len, vs, reach_all f.at s.0 s.2, s.1, u, s.3)
+  -- the words begin a formula that has more
+  open_told : (stop : Result (Option ℕ) (WordFault Cause)) → Stops r ws (length vs) stop → Unfinished vs → Told r t (Err (short_fault (length t) stop))
+  open_told (Ok None) s u = (vs, all_spelled s, omega (arith, fd.few), u, refl)
+  open_told (Ok (Some at)) s u = (length vs, vs, reach_all at s.0 s.2, s.1, u)
+  open_told (Err f) s u = (length vs, vs, reach_all f.at s.0 s.2, s.1, u, s.3)
 
-  shape_told : (f : ShapeFault) (res : Result Policy PolicyFault) → Makes vs (Err (F.Shape f)) → ShapeRefused t f x.stop res → (y : Result Formula PolicyFault) × Gave res y × Told r t y
+  shape_told : (f : ShapeFault) (res : Result Policy PolicyFault) → Makes vs (Err (F.Shape f)) → ShapeRefused x f res → Answered res
   shape_told (S.Kind k) res m h =
-      let lt : k < x.len = omega (arith, m.1, long) in
-      to_err _ res (h (omega (arith, fd.within))) (k, take k vs, reach k lt, omega (arith, fd.few), m.2, (get_or vs k (W.Name 0), word_spelled k lt, λ b. m.3 (subst Begins (sym (take_more vs k (W.Name 0) m.1)) b)))
-  shape_told S.Short res m h = to_err _ res h (open_end x.stop fd.stops m.1)
-  shape_told (S.After k) res m h =
-      let lt : k < x.len = omega (arith, m.1, long) in
-      to_err _ res (h (omega (arith, fd.within))) (k, take k vs, reach k lt, omega (arith, fd.few), m.2)
-  shape_told S.TooMany res m h = absurd (omega (arith, m, long, fd.few))
+      to_err _ res (h (omega (arith, m.1, fd.within))) (k, take k vs, reach k m.1, omega (arith, m.1, fd.few), m.2, (get_or vs k (W.Name 0), word_spelled k m.1, λ b. m.3 (subst Begins (sym (take_more vs k (W.Name 0) m.1)) b)))
+  shape_told S.Short res m h = to_err _ res h (open_told x.stop fd.stops m.1)
+  shape_told (S.After k) res m h = to_err _ res (h (omega (arith, m.1, fd.within))) (k, take k vs, reach k m.1, omega (arith, m.1, fd.few), m.2)
+  shape_told S.TooMany res m h = absurd (omega (arith, m, fd.few))
 
-  ends : (stop : Result Rest WordFault) → (after_fault stop ≡ Ok tt) ⊎ ((e : PolicyFault) × (after_fault stop ≡ Err e))
-  ends (Ok Over) = inl refl
-  ends (Ok (More at)) = inr (P.After at, refl)
-  ends (Err f) = inr (P.After f.at, refl)
-
-  -- a formula's words: the text goes on, or it is over
-  whole-told : (f : Formula) → words f ≡ vs → (res : Result Policy PolicyFault) (Q : Type 0) → MatchResult (after_fault x.stop) (λ _. Q) (λ e. res ≡ Err e) → (x.len ≡ length ws → Q → (y : Result Formula PolicyFault) × Gave res y × Told r t y) → (y : Result Formula PolicyFault) × Gave res y × Told r t y
-  whole-told f e res Q c k =
-      elim (ends x.stop) [
-        | inl o ↦ k (whole_end x.stop fd.stops o) (subst (λ z. MatchResult z (λ _. Q) (λ e. res ≡ Err e)) o c)
-        | inr n ↦ to_err n.0 res (subst (λ z. MatchResult z (λ _. Q) (λ e. res ≡ Err e)) n.1 c) (whole_then x.stop fd.stops (f, e) n.0 n.1)
-      ]
-
-  pub refused_told : (f : WordsFault) (res : Result Policy PolicyFault) → Makes vs (Err f) → Refused t f x.stop res → (y : Result Formula PolicyFault) × Gave res y × Told r t y
+  pub refused_told : (f : WordsFault) (res : Result Policy PolicyFault) → Makes vs (Err f) → Refused x f res → Answered res
   refused_told (F.Shape s) res m h = shape_told s res m h
-  refused_told (F.Number k) res m h =
-      let lt : k < x.len = omega (arith, m.2.0.0, long) in
-      let s = word_spelled k lt in
-      absurd (m.2.0.1 (operand-allowed r _ s.0 s.2))
-  refused_told (F.Loose k) res m h = whole-told m.0 m.1 res _ h (λ e q.
-      to_err _ res (q (omega (arith, e, long, ap length m.1, loose_below m.0 given k m.4.0))) (m.0, k, spelled_end m.0 m.1 e, m.4, refl))
-  refused_told (F.Unanchored k) res m h = whole-told m.0 m.1 res _ h (λ e q.
-      to_err _ res (q (omega (arith, e, long, ap length m.1, stray_below m.0 k m.5.0))) (m.0, k, spelled_end m.0 m.1 e, m.4, m.5, refl))
+  refused_told (F.Number k) res m h = let s = word_spelled k m.2.0.0 in absurd (m.2.0.1 (operand-allowed r _ s.0 s.2))
+  refused_told (F.Loose k) res m h = whole_told x.stop fd.stops (m.0, m.1) res _ h (λ e q.
+      to_err _ res (q (omega (arith, e, ap length m.1, loose_below m.0 given k m.4.0))) (m.0, k, spelled_end m.0 m.1 e, m.4, refl))
+  refused_told (F.Unanchored k) res m h = whole_told x.stop fd.stops (m.0, m.1) res _ h (λ e q.
+      to_err _ res (q (omega (arith, e, ap length m.1, stray_below m.0 k m.5.0))) (m.0, k, spelled_end m.0 m.1 e, m.4, m.5, refl))
 
-  pub good_told : (f : Formula) (p : Policy) → Makes vs (Ok f) → Means p f → after_fault x.stop ≡ Ok tt → (y : Result Formula PolicyFault) × Gave (Ok p) y × Told r t y
-  good_told f p m h o = (Ok f, h, (spelled_end f m.0 (whole_end x.stop fd.stops o), m.1.closed, m.1.anchored))
-
-  pub after-told : (f : Formula) (res : Result Policy PolicyFault) (e : PolicyFault) → Makes vs (Ok f) → after_fault x.stop ≡ Err e → res ≡ Err e → (y : Result Formula PolicyFault) × Gave res y × Told r t y
-  after-told f res e m o h = to_err e res h (whole_then x.stop fd.stops (f, m.0) e o)
+  pub made_told : (f : Formula) (p : Policy) (res : Result Policy PolicyFault) → Makes vs (Ok f) → Means p f → MatchResult (after_fault x.stop) (λ _. res ≡ Ok p) (λ e. res ≡ Err e) → Answered res
+  made_told f p res m h c = whole_told x.stop fd.stops (f, m.0) res _ c (λ e q. (Ok f, subst (λ z. Gave z (Ok f)) (sym q) h, (spelled_end f m.0 e, m.1.closed, m.1.anchored)))

@@ -1,5 +1,6 @@
 -- What is to be told of a text under a roll: the formula that it spells, or the first fault.
 use Rattle.std.specs.Prelude.{◌≡◌, ℕ, ◌<◌, ◌≤◌, List, [], ◌∷◌, ◌++◌, length, take, Ok, Err, Result, slice_index_or}
+use Rattle.std.specs.List.{AllByRecursion, AllZip}
 use Rattle.text.specs.Text.{words as text_words, start_of}
 use Rattle.book.specs.declared.counts.Counts.{Counts}
 use Rattle.roll.specs.declared.roll.Roll.{Roll}
@@ -15,12 +16,9 @@ use Rattle.policy_reader.specs.Spell.{Spells, Wrong}
 use Rattle.policy_reader.specs.declared.fault.PolicyFault.{PolicyFault}
 use Rattle.policy_reader.specs.declared.fault.PolicyFault.TheVariants as P
 
--- each of the pieces spells its word
+-- the pieces spell the words, each its own, and there are as many
 abbrev pub EachSpells : Roll → List Word → List (List ℕ) → Type 0
-EachSpells r [] [] = Unit {0}
-EachSpells r [] (b ∷ bs) = ⊥
-EachSpells r (w ∷ ws) [] = ⊥
-EachSpells r (w ∷ ws) (b ∷ bs) = Spells r w b × EachSpells r ws bs
+EachSpells r ws bs = AllZip (Spells r) ws bs
 
 -- the words of the text t spell the formula, which has at most 64 words
 abbrev pub Spelled : Roll → List ℕ → Formula → Type 0
@@ -62,25 +60,15 @@ Gave (Ok p) (Err e) = ⊥
 Gave (Err d) (Ok f) = ⊥
 Gave (Err d) (Err e) = d ≡ e
 
--- the word's number is below the count of its list
+-- the word's number, if it has one, is below the count of its list
 abbrev pub Below : Counts → Word → Type 0
 Below c (W.Name n) = n < c.names
-Below c (W.Letter v) = Unit {0}
-Below c (W.Mark m) = m < c.marks
-Below c W.Not = Unit {0}
-Below c W.And = Unit {0}
-Below c W.Or = Unit {0}
-Below c (W.AtLetter v) = Unit {0}
 Below c (W.AtName n) = n < c.names
-Below c (W.Bind v) = Unit {0}
-Below c W.Follow = Unit {0}
+Below c (W.Mark m) = m < c.marks
 Below c (W.Forward l) = l < c.labels
 Below c (W.Backward l) = l < c.labels
-Below c W.Seq = Unit {0}
-Below c W.Plus = Unit {0}
-Below c W.Stay = Unit {0}
+Below c _ = Unit {0}
 
--- each word's is
+-- each word's number is below the count of its list
 abbrev pub EachBelow : Counts → List Word → Type 0
-EachBelow c [] = Unit {0}
-EachBelow c (w ∷ ws) = Below c w × EachBelow c ws
+EachBelow c ws = AllByRecursion (Below c) ws

@@ -1,6 +1,9 @@
 ghost use Rattle.std.specs.Prelude.{◌≡◌};
 ghost use Rattle.policy_reader.specs.Numbers.{cause_number, fault_number, fault_place};
+ghost use Rattle.policy_reader.specs.Causes.{operand_cause};
 ghost use Rattle.policy_reader.specs.declared.fault.PolicyFault.TheVariants.{Word as WordF};
+
+use text::word::WordCause;
 
 // What is wrong with one word by itself.
 #[derive(Clone, Copy, Debug, PartialEq, Eq)]
@@ -17,19 +20,12 @@ pub enum Cause {
     Unlisted,
 }
 
-// A faulty word: what is wrong with it, and the byte offset at which it begins.
-#[derive(Clone, Copy, Debug, PartialEq, Eq)]
-pub struct WordFault {
-    pub cause: Cause,
-    pub at: usize,
-}
-
-impl WordFault {
-    // The number by which the fault is told: 4 to 7.
+impl Cause {
+    // The number by which the cause is told: 4 to 7.
     pub fn number(self) -> u8
-        ensures { result ≡ cause_number self.cause }
+        ensures { result ≡ cause_number self }
     {
-        match self.cause {
+        match self {
             Cause::Byte => 4,
             Cause::Empty | Cause::Length => 5,
             Cause::Unlisted => 6,
@@ -37,6 +33,21 @@ impl WordFault {
         }
     }
 }
+
+// What is wrong with an operand as a word of a list.
+impl From<WordCause> for Cause {
+    ghost from_gives = { λ cause result. result ≡ operand_cause cause };
+
+    fn from(cause: WordCause) -> Cause {
+        match cause {
+            WordCause::BadByte => Cause::Byte,
+            WordCause::BadLength => Cause::Length,
+        }
+    }
+}
+
+// A faulty word: what is wrong with it, and the byte offset at which it begins.
+pub type WordFault = text::word::WordFault<Cause>;
 
 // Why a text is no policy's. Each case has the byte offset of the word; 9 has the text's length.
 #[derive(Clone, Copy, Debug, PartialEq, Eq)]
@@ -63,7 +74,7 @@ impl PolicyFault {
         ensures { result ≡ fault_number self }
     {
         match self {
-            PolicyFault::Word(fault) => fault.number(),
+            PolicyFault::Word(fault) => fault.cause.number(),
             PolicyFault::Kind(_) => 8,
             PolicyFault::Short(_) => 9,
             PolicyFault::After(_) => 10,
@@ -90,7 +101,7 @@ impl PolicyFault {
 }
 
 impl From<WordFault> for PolicyFault {
-    ghost from_gives = { λ w r. r ≡ WordF w };
+    ghost from_gives = { λ fault result. result ≡ WordF fault };
 
     fn from(fault: WordFault) -> PolicyFault {
         PolicyFault::Word(fault)

@@ -5,64 +5,48 @@ ghost use Rattle.policy_reader.specs.Found.{Finds};
 
 use crate::fault::WordFault;
 use crate::spell::read_word;
+use arrayvec::ArrayVec;
 use policy_words::word::Word;
 use roll::roll::Roll;
 use text::pieces::Pieces;
 
-// What comes after the words that were found.
-#[derive(Clone, Copy)]
-pub enum Rest {
-    // nothing: the text is over
-    Over,
-    // a 65th word, which begins at this byte
-    More(usize),
-}
-
-// At most 64 words, and why they are not more.
-#[derive(Clone, Copy)]
-pub struct Found {
-    pub words: [Word; 64],
-    pub len: usize,
-    pub stop: Result<Rest, WordFault>,
+// At most 64 words of a text, and why they are not more.
+#[derive(Drop)]
+pub struct Found<'a> {
+    pub text: &'a [u8],
+    pub words: ArrayVec<Word, 64>,
+    // nothing comes after the words, or a 65th word, which begins at this byte, or a faulty one
+    pub stop: Result<Option<usize>, WordFault>,
 }
 
 // The words of the text up to its end, its 65th or its first faulty one.
-pub fn find_words(roll: &Roll, text: &[u8]) -> Found
-    ensures { Finds roll.now text.now result }
+pub fn find_words<'a>(roll: &Roll, text: &'a [u8]) -> Found<'a>
+    ensures text { result.text.now ≡ text.now }
+    ensures found { Finds roll.now result }
 {
-    let mut words = [Word::Stay; 64];
-    let mut len = 0;
-    let mut pieces = Pieces::words(text);
-    while let Some(piece) = pieces.next() {
-        if len == 64 {
-            let stop = Ok(Rest::More(piece.at));
-            return Found { words, len, stop };
+    let mut words = ArrayVec::new();
+    for piece in Pieces::words(text) {
+        if words.is_full() {
+            let stop = Ok(Some(piece.at));
+            return Found { text, words, stop };
         }
-        match read_word(roll, piece.bytes, piece.at) {
-            Ok(word) => words[len] = word,
+        match read_word(roll, piece) {
+            Ok(word) => words.push(word),
             Err(fault) => {
                 let stop = Err(fault);
-                return Found { words, len, stop };
+                return Found { text, words, stop };
             }
         }
-        len += 1;
     }
-    let stop = Ok(Rest::Over);
-    Found { words, len, stop }
+    let stop = Ok(None);
+    Found { text, words, stop }
 }
 
-// The byte at which word k of the text begins, where it has such a word.
-pub fn start_of(text: &[u8], k: usize) -> usize
-    ensures { k < length (text_words text.now) → result ≡ start_of k (text_words text.now) }
-{
-    let mut pieces = Pieces::words(text);
-    for n in 0..k {
-        let Some(_) = pieces.next() else {
-            return n;
-        };
-    }
-    match pieces.next() {
-        Some(piece) => piece.at,
-        None => 0,
+impl<'a> Found<'a> {
+    // The byte at which word k of the text begins, where it has such a word.
+    pub fn start_of(&self, k: usize) -> usize
+        ensures { k < length (text_words self.now.text.now) → result ≡ start_of k (text_words self.now.text.now) }
+    {
+        Pieces::words(self.text).nth(k).map_or(0, |piece| piece.at)
     }
 }

@@ -1,69 +1,64 @@
-ghost use Rattle.std.specs.Prelude.{◌≡◌, Ok, Err, Result as Outcome};
+ghost use Rattle.std.specs.Prelude.{◌≡◌, length, Ok, Err, Result as Outcome};
 ghost use Rattle.roll.specs.Rolls.{counts_of};
 ghost use Rattle.policy_words.specs.Tree.{Formula, words};
 ghost use Rattle.policy_reader.specs.Ends.{after_fault, short_fault, ShapeRefused, Refused};
 ghost use Rattle.policy_reader.specs.Told.{Gave, Told, EachBelow};
 
-use crate::fault::{PolicyFault, WordFault};
-use crate::found::{Rest, find_words, start_of};
+use crate::fault::PolicyFault;
+use crate::found::{Found, find_words};
 use policy::fault::WordsFault;
 use policy::policy::Policy;
 use policy_words::shape::ShapeFault;
 use roll::roll::Roll;
 
-// After a finished formula the text has to be over.
-fn finished(stop: Result<Rest, WordFault>) -> Result<(), PolicyFault>
-    ensures { result ≡ after_fault stop }
-{
-    match stop {
-        Ok(Rest::Over) => Ok(()),
-        Ok(Rest::More(at)) => Err(PolicyFault::After(at)),
-        Err(fault) => Err(PolicyFault::After(fault.at)),
-    }
-}
-
-// Refuses a text of `end` bytes whose formula is not finished.
-fn short(stop: Result<Rest, WordFault>, end: usize) -> Result<Policy, PolicyFault>
-    ensures { result ≡ Err (short_fault end stop) }
-{
-    match stop? {
-        Rest::Over => Err(PolicyFault::Short(end)),
-        Rest::More(at) => Err(PolicyFault::TooMany(at)),
-    }
-}
-
-// Refuses a text whose words make no formula; they are never more than 64.
-fn misshapen(
-    text: &[u8],
-    fault: ShapeFault,
-    stop: Result<Rest, WordFault>,
-) -> Result<Policy, PolicyFault>
-    ensures { ShapeRefused text.now fault stop result }
-{
-    match fault {
-        ShapeFault::Kind(k) => Err(PolicyFault::Kind(start_of(text, k))),
-        ShapeFault::After(k) => Err(PolicyFault::After(start_of(text, k))),
-        ShapeFault::Short | ShapeFault::TooMany => short(stop, text.len()),
-    }
-}
-
-// Refuses a text whose words make no policy; a word that was read has a number that it can have.
-fn refused(
-    text: &[u8],
-    fault: WordsFault,
-    stop: Result<Rest, WordFault>,
-) -> Result<Policy, PolicyFault>
-    ensures { Refused text.now fault stop result }
-{
-    match fault {
-        WordsFault::Shape(shape) => misshapen(text, shape, stop),
-        WordsFault::Number(k) | WordsFault::Loose(k) => {
-            finished(stop)?;
-            Err(PolicyFault::Loose(start_of(text, k)))
+impl<'a> Found<'a> {
+    // After a finished formula the text has to be over.
+    fn finished(&self) -> Result<(), PolicyFault>
+        ensures { result ≡ after_fault self.now.stop }
+    {
+        match self.stop {
+            Ok(None) => Ok(()),
+            Ok(Some(at)) => Err(PolicyFault::After(at)),
+            Err(fault) => Err(PolicyFault::After(fault.at)),
         }
-        WordsFault::Unanchored(k) => {
-            finished(stop)?;
-            Err(PolicyFault::Unanchored(start_of(text, k)))
+    }
+
+    // Refuses a text whose formula is not finished.
+    fn short(&self) -> Result<Policy, PolicyFault>
+        ensures { result ≡ Err (short_fault (length self.now.text.now) self.now.stop) }
+    {
+        match self.stop? {
+            None => Err(PolicyFault::Short(self.text.len())),
+            Some(at) => Err(PolicyFault::TooMany(at)),
+        }
+    }
+
+    // Refuses a text whose words make no formula; they are never more than 64.
+    fn misshapen(&self, fault: ShapeFault) -> Result<Policy, PolicyFault>
+        ensures { ShapeRefused self.now fault result }
+    {
+        match fault {
+            ShapeFault::Kind(k) => Err(PolicyFault::Kind(self.start_of(k))),
+            ShapeFault::After(k) => Err(PolicyFault::After(self.start_of(k))),
+            ShapeFault::Short | ShapeFault::TooMany => self.short(),
+        }
+    }
+
+    // Refuses a text whose words make no policy; a word that was read has a number that it can
+    // have.
+    fn refused(&self, fault: WordsFault) -> Result<Policy, PolicyFault>
+        ensures { Refused self.now fault result }
+    {
+        match fault {
+            WordsFault::Shape(shape) => self.misshapen(shape),
+            WordsFault::Number(k) | WordsFault::Loose(k) => {
+                self.finished()?;
+                Err(PolicyFault::Loose(self.start_of(k)))
+            }
+            WordsFault::Unanchored(k) => {
+                self.finished()?;
+                Err(PolicyFault::Unanchored(self.start_of(k)))
+            }
         }
     }
 }
@@ -78,11 +73,11 @@ pub fn read(roll: &Roll, text: &[u8]) -> Result<Policy, PolicyFault>
     ensures counted { (f : Formula) → Told roll.now text.now (Ok f) → EachBelow (counts_of roll.now) (words f) }
 {
     let found = find_words(roll, text);
-    match Policy::of(&found.words[0..found.len]) {
+    match Policy::of(&found.words) {
         Ok(policy) => {
-            finished(found.stop)?;
+            found.finished()?;
             Ok(policy)
         }
-        Err(fault) => refused(text, fault, found.stop),
+        Err(fault) => found.refused(fault),
     }
 }

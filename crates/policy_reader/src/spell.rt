@@ -1,54 +1,19 @@
 // Words under a roll.
-ghost use Rattle.std.specs.Prelude.{◌≡◌, ℕ, true, false, [], MatchResult};
+ghost use Rattle.std.specs.Prelude.{◌≡◌, true, false, [], MatchResult};
 ghost use Rattle.text.specs.Word.{Fine};
-ghost use Rattle.roll.specs.declared.roll.Roll.{Roll as Texts};
+ghost use Rattle.policy_words.specs.Letters.{letter_text};
 ghost use Rattle.policy_words.specs.Tree.{Settable};
-ghost use Rattle.policy_words.specs.declared.word.Letter.{Letter as Sign};
-ghost use Rattle.policy_reader.specs.Token.{sign, operand, place};
-ghost use Rattle.policy_reader.specs.Spell.{letter_text, limit, Numbered, Operand, Spells, sign_of, bare, Listed, Breaks, Wrong};
+ghost use Rattle.policy_reader.specs.Token.{sign, operand};
+ghost use Rattle.policy_reader.specs.Spell.{limit, Numbered, IsOperand, Spells, sign_of, bare, Listed, Wrong};
+ghost use Rattle.policy_reader.specs.Operands.{IsFaultOf, ReadAs};
 
 use crate::fault::{Cause, WordFault};
-use crate::token::{Token, cut};
+use crate::token::{Operand, Token, cut};
 use policy_words::word::{Letter, Word};
 use roll::list::List;
 use roll::roll::Roll;
-use text::word::{WordCause, cause_of, is_plain};
-
-// The word of a bare sign: it has no operand.
-fn alone(o: &[u8], at: usize, w: Word) -> Result<Word, WordFault>
-    ensures { MatchResult result (λ v. (v ≡ w) × (o.now ≡ [])) (λ f. (f.at ≡ at) × Breaks true o.now (Unit {0}) f.cause) }
-{
-    if !is_plain(o) {
-        return Err(WordFault {
-            cause: Cause::Byte,
-            at,
-        });
-    }
-    if !o.is_empty() {
-        return Err(WordFault {
-            cause: Cause::Length,
-            at,
-        });
-    }
-    Ok(w)
-}
-
-// Refuses an operand that no list can have.
-fn sized(o: &[u8], at: usize) -> Result<(), WordFault>
-    ensures { MatchResult result (λ _. Fine o.now) (λ f. (f.at ≡ at) × Breaks false o.now (Unit {0}) f.cause) }
-{
-    match cause_of(o) {
-        None => Ok(()),
-        Some(WordCause::BadByte) => Err(WordFault {
-            cause: Cause::Byte,
-            at,
-        }),
-        Some(WordCause::BadLength) => Err(WordFault {
-            cause: Cause::Length,
-            at,
-        }),
-    }
-}
+use text::pieces::Piece;
+use text::word::{cause_of, is_plain};
 
 // How many words of a list a policy can name.
 fn limit_of(list: List) -> u8
@@ -60,82 +25,87 @@ fn limit_of(list: List) -> u8
     }
 }
 
-// The number of an operand in its list.
-fn number_in(roll: &Roll, list: List, o: &[u8], at: usize) -> Result<u8, WordFault>
-    ensures { MatchResult result (λ n. Numbered roll.now list o.now n) (λ f. (f.at ≡ at) × Breaks false o.now ((n : ℕ) × Numbered roll.now list o.now n) f.cause) }
-{
-    sized(o, at)?;
-    let unlisted = WordFault {
-        cause: Cause::Unlisted,
-        at,
-    };
-    let Some(n) = roll.find(list, o) else {
-        return Err(unlisted);
-    };
-    if n >= limit_of(list) {
-        return Err(unlisted);
+impl<'a> Operand<'a> {
+    // The word of a bare sign: it has no operand.
+    fn bare(self, word: Word) -> Result<Word, WordFault>
+        ensures { ReadAs true self.entry (λ w. (w ≡ word) × (self.entry.bytes.now ≡ [])) result }
+    {
+        if !is_plain(self.bytes) {
+            return Err(self.fault(Cause::Byte));
+        }
+        if !self.bytes.is_empty() {
+            return Err(self.fault(Cause::Length));
+        }
+        Ok(word)
     }
-    Ok(n)
+
+    // Refuses an operand that no list can have.
+    fn check(self) -> Result<(), WordFault>
+        ensures { ReadAs false self.entry (λ _. Fine self.entry.bytes.now) result }
+    {
+        match cause_of(self.bytes) {
+            None => Ok(()),
+            Some(cause) => Err(self.fault(cause.into())),
+        }
+    }
+
+    // The number of an operand in its list.
+    fn number_in(self, roll: &Roll, list: List) -> Result<u8, WordFault>
+        ensures { ReadAs false self.entry (λ n. Numbered roll.now list self.entry.bytes.now n) result }
+    {
+        self.check()?;
+        roll.find(list, self.bytes)
+            .filter(|n| *n < limit_of(list))
+            .ok_or(self.fault(Cause::Unlisted))
+    }
+
+    // The letter of an operand.
+    fn letter(self) -> Result<Letter, WordFault>
+        ensures { ReadAs false self.entry (λ v. self.entry.bytes.now ≡ letter_text v) result }
+    {
+        self.check()?;
+        Letter::try_from(self.bytes).or(Err(self.fault(Cause::Unlisted)))
+    }
+
+    // The letter of an operand, where a `$` can set it.
+    fn settable(self) -> Result<Letter, WordFault>
+        ensures { ReadAs false self.entry (λ v. Settable v × (self.entry.bytes.now ≡ letter_text v)) result }
+    {
+        match self.letter()? {
+            letter @ (Letter::A | Letter::B) => Ok(letter),
+            Letter::Requester | Letter::Resource => Err(self.fault(Cause::Unlisted)),
+        }
+    }
 }
 
-// The letter of an operand.
-fn letter_in(o: &[u8], at: usize) -> Result<Letter, WordFault>
-    ensures { MatchResult result (λ v. o.now ≡ letter_text v) (λ f. (f.at ≡ at) × Breaks false o.now ((v : Sign) × (o.now ≡ letter_text v)) f.cause) }
-{
-    sized(o, at)?;
-    match o {
-        b"q" => Ok(Letter::Requester),
-        b"r" => Ok(Letter::Resource),
-        b"a" => Ok(Letter::A),
-        b"b" => Ok(Letter::B),
-        _ => Err(WordFault {
-            cause: Cause::Unlisted,
-            at,
-        }),
-    }
-}
-
-// The letter of an operand, where a `$` can set it.
-fn settable(o: &[u8], at: usize) -> Result<Letter, WordFault>
-    ensures { MatchResult result (λ v. Settable v × (o.now ≡ letter_text v)) (λ f. (f.at ≡ at) × Breaks false o.now ((v : Sign) × Settable v × (o.now ≡ letter_text v)) f.cause) }
-{
-    match letter_in(o, at)? {
-        Letter::A => Ok(Letter::A),
-        Letter::B => Ok(Letter::B),
-        _ => Err(WordFault {
-            cause: Cause::Unlisted,
-            at,
-        }),
-    }
-}
-
-// The word that a token stands for under the roll.
-fn known(roll: &Roll, t: Token) -> Result<Word, WordFault>
-    ensures { MatchResult result (λ w. (sign_of w ≡ sign t.entry) × Operand roll.now w (operand t.entry)) (λ f. (f.at ≡ place t.entry) × Breaks (bare (sign t.entry)) (operand t.entry) (Listed roll.now (sign t.entry) (operand t.entry)) f.cause) }
-{
-    match t {
-        Token::Name(o, at) => Ok(Word::Name(number_in(roll, List::Names, o, at)?)),
-        Token::Letter(o, at) => Ok(Word::Letter(letter_in(o, at)?)),
-        Token::Mark(o, at) => Ok(Word::Mark(number_in(roll, List::Marks, o, at)?)),
-        Token::Not(o, at) => alone(o, at, Word::Not),
-        Token::And(o, at) => alone(o, at, Word::And),
-        Token::Or(o, at) => alone(o, at, Word::Or),
-        Token::AtLetter(o, at) => Ok(Word::AtLetter(letter_in(o, at)?)),
-        Token::AtName(o, at) => Ok(Word::AtName(number_in(roll, List::Names, o, at)?)),
-        Token::Bind(o, at) => Ok(Word::Bind(settable(o, at)?)),
-        Token::Follow(o, at) => alone(o, at, Word::Follow),
-        Token::Forward(o, at) => Ok(Word::Forward(number_in(roll, List::Labels, o, at)?)),
-        Token::Backward(o, at) => Ok(Word::Backward(number_in(roll, List::Labels, o, at)?)),
-        Token::Seq(o, at) => alone(o, at, Word::Seq),
-        Token::Plus(o, at) => alone(o, at, Word::Plus),
-        Token::Stay(o, at) => alone(o, at, Word::Stay),
+impl<'a> Token<'a> {
+    // The word that the token stands for under the roll.
+    fn word(self, roll: &Roll) -> Result<Word, WordFault>
+        ensures { MatchResult result (λ w. (sign_of w ≡ sign self.entry) × IsOperand roll.now w (operand self.entry).bytes.now) (IsFaultOf (bare (sign self.entry)) (operand self.entry) (Listed roll.now (sign self.entry) (operand self.entry).bytes.now)) }
+    {
+        match self {
+            Token::Name(operand) => operand.number_in(roll, List::Names).map(Word::Name),
+            Token::Letter(operand) => operand.letter().map(Word::Letter),
+            Token::Mark(operand) => operand.number_in(roll, List::Marks).map(Word::Mark),
+            Token::Not(operand) => operand.bare(Word::Not),
+            Token::And(operand) => operand.bare(Word::And),
+            Token::Or(operand) => operand.bare(Word::Or),
+            Token::AtLetter(operand) => operand.letter().map(Word::AtLetter),
+            Token::AtName(operand) => operand.number_in(roll, List::Names).map(Word::AtName),
+            Token::Bind(operand) => operand.settable().map(Word::Bind),
+            Token::Follow(operand) => operand.bare(Word::Follow),
+            Token::Forward(operand) => operand.number_in(roll, List::Labels).map(Word::Forward),
+            Token::Backward(operand) => operand.number_in(roll, List::Labels).map(Word::Backward),
+            Token::Seq(operand) => operand.bare(Word::Seq),
+            Token::Plus(operand) => operand.bare(Word::Plus),
+            Token::Stay(operand) => operand.bare(Word::Stay),
+        }
     }
 }
 
 // The word that the bytes spell, or what is wrong with them.
-pub fn read_word(roll: &Roll, bytes: &[u8], at: usize) -> Result<Word, WordFault>
-    ensures { MatchResult result (λ w. Spells roll.now w bytes.now) (λ f. (f.at ≡ at) × Wrong roll.now bytes.now f.cause) }
+pub fn read_word(roll: &Roll, word: Piece) -> Result<Word, WordFault>
+    ensures { MatchResult result (λ w. Spells roll.now w word.entry.bytes.now) (λ f. (f.at ≡ word.entry.at) × Wrong roll.now word.entry.bytes.now f.cause) }
 {
-    let token = cut(bytes, at)?;
-    known(roll, token)
+    cut(word)?.word(roll)
 }

@@ -1,63 +1,72 @@
 ghost use Rattle.std.specs.Prelude.{◌≡◌, ◌++◌, MatchResult};
-ghost use Rattle.policy_reader.specs.Token.{mark, sign, operand, place, Unsigned};
+ghost use Rattle.policy_reader.specs.Token.{mark, sign, operand, Unsigned};
 
 use crate::fault::{Cause, WordFault};
+use text::pieces::Piece;
 
-// A word cut into its sign and its operand. The operand is a part of the text; `usize` is the byte offset of the word.
+// An operand, which is a part of the text, and the byte offset at which its word begins.
 #[derive(Clone, Copy)]
-pub enum Token<'a> {
-    Name(&'a [u8], usize),
-    Letter(&'a [u8], usize),
-    Mark(&'a [u8], usize),
-    Not(&'a [u8], usize),
-    And(&'a [u8], usize),
-    Or(&'a [u8], usize),
-    AtLetter(&'a [u8], usize),
-    AtName(&'a [u8], usize),
-    Bind(&'a [u8], usize),
-    Follow(&'a [u8], usize),
-    Forward(&'a [u8], usize),
-    Backward(&'a [u8], usize),
-    Seq(&'a [u8], usize),
-    Plus(&'a [u8], usize),
-    Stay(&'a [u8], usize),
+pub struct Operand<'a> {
+    pub bytes: &'a [u8],
+    pub at: usize,
 }
 
-// Cuts a word, which begins at the byte `at` of its text, after its sign.
-pub fn cut<'a>(word: &'a [u8], at: usize) -> Result<Token<'a>, WordFault>
-    ensures { MatchResult result (λ t. (word.now ≡ mark (sign t) ++ operand t) × (place t ≡ at)) (λ f. (f.at ≡ at) × Unsigned word.now f.cause) }
+// A word cut into its sign and its operand.
+#[derive(Clone, Copy)]
+pub enum Token<'a> {
+    Name(Operand<'a>),
+    Letter(Operand<'a>),
+    Mark(Operand<'a>),
+    Not(Operand<'a>),
+    And(Operand<'a>),
+    Or(Operand<'a>),
+    AtLetter(Operand<'a>),
+    AtName(Operand<'a>),
+    Bind(Operand<'a>),
+    Follow(Operand<'a>),
+    Forward(Operand<'a>),
+    Backward(Operand<'a>),
+    Seq(Operand<'a>),
+    Plus(Operand<'a>),
+    Stay(Operand<'a>),
+}
+
+impl<'a> Operand<'a> {
+    // The fault of the operand's word.
+    pub fn fault(self, cause: Cause) -> WordFault
+        ensures { result ≡ record { cause = cause; at = self.entry.at } }
+    {
+        WordFault { cause, at: self.at }
+    }
+}
+
+// Cuts a word after its sign.
+pub fn cut<'a>(word: Piece<'a>) -> Result<Token<'a>, WordFault>
+    ensures { MatchResult result (λ t. (word.entry.bytes.now ≡ mark (sign t) ++ (operand t).bytes.now) × ((operand t).at ≡ word.entry.at)) (λ f. (f.at ≡ word.entry.at) × Unsigned word.entry.bytes.now f.cause) }
 {
-    match word {
-        [] => Err(WordFault {
-            cause: Cause::Empty,
-            at,
-        }),
+    let operand = |bytes| Operand { bytes, at: word.at };
+    match word.bytes {
+        [] => Err(operand(word.bytes).fault(Cause::Empty)),
         [b'@', second, rest @ ..] => match *second as char {
-            '?' => Ok(Token::AtLetter(rest, at)),
-            '#' => Ok(Token::AtName(rest, at)),
-            _ => Err(WordFault {
-                cause: Cause::Sign,
-                at,
-            }),
+            '?' => Ok(Token::AtLetter(operand(rest))),
+            '#' => Ok(Token::AtName(operand(rest))),
+            _ => Err(operand(rest).fault(Cause::Sign)),
         },
         [sign, rest @ ..] => match *sign as char {
-            '#' => Ok(Token::Name(rest, at)),
-            '?' => Ok(Token::Letter(rest, at)),
-            '%' => Ok(Token::Mark(rest, at)),
-            '!' => Ok(Token::Not(rest, at)),
-            '&' => Ok(Token::And(rest, at)),
-            ':' => Ok(Token::Or(rest, at)),
-            '$' => Ok(Token::Bind(rest, at)),
-            '/' => Ok(Token::Follow(rest, at)),
-            '>' => Ok(Token::Forward(rest, at)),
-            '<' => Ok(Token::Backward(rest, at)),
-            ';' => Ok(Token::Seq(rest, at)),
-            '+' => Ok(Token::Plus(rest, at)),
-            '=' => Ok(Token::Stay(rest, at)),
-            _ => Err(WordFault {
-                cause: Cause::Sign,
-                at,
-            }),
+            '#' => Ok(Token::Name(operand(rest))),
+            '?' => Ok(Token::Letter(operand(rest))),
+            '%' => Ok(Token::Mark(operand(rest))),
+            '!' => Ok(Token::Not(operand(rest))),
+            '&' => Ok(Token::And(operand(rest))),
+            ':' => Ok(Token::Or(operand(rest))),
+            '$' => Ok(Token::Bind(operand(rest))),
+            '/' => Ok(Token::Follow(operand(rest))),
+            '>' => Ok(Token::Forward(operand(rest))),
+            '<' => Ok(Token::Backward(operand(rest))),
+            ';' => Ok(Token::Seq(operand(rest))),
+            '+' => Ok(Token::Plus(operand(rest))),
+            '=' => Ok(Token::Stay(operand(rest))),
+            _ => Err(operand(rest).fault(Cause::Sign)),
         },
     }
 }

@@ -38,6 +38,6 @@ examples r n e lt = record {
   loose = alone r (codes "@?r ?a") (P.Loose 4) (at_letter L.Resource (same L.A), 1, (((codes "r", refl, refl), ((codes "a", refl, refl), tt)), omega arith), tells_loose (at_letter L.Resource (same L.A)) given, refl);
   short = alone r (codes "@?r") (P.Short 3) (W.AtLetter L.Resource ∷ [], ((codes "r", refl, refl), tt), omega arith, begun, refl);
   after = alone r (codes "@?r ?q ?q") (P.After 7) (2, W.AtLetter L.Resource ∷ W.Letter L.Requester ∷ [], record { there = omega arith; place = refl; before = ((codes "r", refl, refl), ((codes "q", refl, refl), tt)) }, omega arith, (at_letter L.Resource (same L.Requester), refl));
-  kind = alone r (codes "@?r >buys") (P.Kind 4) (1, W.AtLetter L.Resource ∷ [], record { there = omega arith; place = refl; before = ((codes "r", refl, refl), tt) }, omega arith, begun, (W.Forward n, (codes "buys", refl, (fine, e, lt)), no_path n));
+  kind = alone r (codes "@?r >buys") (P.Kind 4) (1, W.AtLetter L.Resource ∷ [], record { there = omega arith; place = refl; before = ((codes "r", refl, refl), tt) }, omega arith, begun, (W.Forward n, (codes "buys", refl, record { fine = fine; is = e; few = lt }), no_path n));
   empty = alone r (codes "") (P.Short 0) ([], tt, omega arith, (is 0, W.Name 0, [], refl), refl);
 }

@@ -4,8 +4,6 @@
 ghost use Rattle.worked.specs.Policies.{PolicyExamples};
 
 // Of six policy texts, over any roll that has the label buys: which fault is told, and no other.
-pub fn policies() -> u8
+pub fn policies()
     ensures { PolicyExamples }
-{
-    0
-}
+{}

@@ -1,60 +1,49 @@
-use Rattle.std.proofs.Common.{sym, ◌∙◌, subst, arith, length-set}
-use Rattle.roll.proofs.Walks.{step_end}
+use Rattle.std.proofs.Common.{◌≡◌, ◌<◌, [], ◌∷◌, length, sym, ap, ◌∙◌, subst, arith, length-append}
+use Rattle.std.proofs.lemmas.Bool.{eqb-true}
+use Rattle.std.proofs.lemmas.List.{map-append}
 use Rattle.text.specs.Text.{words as text_words}
+use Rattle.text.specs.Left.{left, start}
 use Rattle.policy_reader.specs.Spell.{Wrong}
-use Rattle.policy_reader.proofs.Finding.{each_more, took_there, took_word, took_on, took_at, took_next}
+use Rattle.policy_reader.proofs.Finding.{bytes, each_push, there, word, place, found}
 use Rattle.policy_reader.proofs.found.find_words.Goals as goal
 
-pub returns-then-len-eq64 : goal.returns-then-len-eq64
-returns-then-len-eq64 c =
-    let ws = text_words c.args.text.now in
-    let n = c.loop-piece.len in
-    let t = c.in-Some.ensures.steps in
+pub returns-then-is_full-clause-found : goal.returns-then-is_full-clause-found
+returns-then-is_full-clause-found c =
+    let whole = ap left c.into_iter-piece-iterator.ensures.into_iter_gives ∙ c.words-piece-items.ensures.value in
+    let begins = ap start c.into_iter-piece-iterator.ensures.into_iter_gives ∙ c.words-piece-items.ensures.starts in
     let i = c.loop-piece.invariant in
-    record {
-      few = i.0;
-      long = i.1;
-      within = i.2;
-      spelled = i.3;
-      stops = (took_there ws n t i.4 i.5, c.if-len-eq64.true, took_at ws n t i.4 i.5);
-    }
+    let ran = c.loop-piece.yielded_by in
+    let ws = text_words c.args.text.now in
+    let t = c.in-Some.ensures.steps in
+    let n : length c.loop-piece.yielded ≡ 64 = sym i.as_many ∙ eqb-true (length c.loop-piece.words.items) 64 (sym c.if-is_full.ensures.value) in
+    found c.args.roll.now c.args.text c.loop-piece.words _ _ _ _ whole begins ran i.few i.as_many i.spelled (there ws _ _ _ whole begins ran _ _ t, n, place ws _ _ _ whole begins ran _ _ t)
 
-pub returns-in-Err : goal.returns-in-Err
-returns-in-Err c =
-    let ws = text_words c.args.text.now in
-    let n = c.loop-piece.len in
-    let t = c.in-Some.ensures.steps in
+pub returns-in-Err-clause-found : goal.returns-in-Err-clause-found
+returns-in-Err-clause-found c =
+    let whole = ap left c.into_iter-piece-iterator.ensures.into_iter_gives ∙ c.words-piece-items.ensures.value in
+    let begins = ap start c.into_iter-piece-iterator.ensures.into_iter_gives ∙ c.words-piece-items.ensures.starts in
     let i = c.loop-piece.invariant in
+    let ran = c.loop-piece.yielded_by in
+    let ws = text_words c.args.text.now in
+    let t = c.in-Some.ensures.steps in
     let f = c.in-Err.ensures in
-    record {
-      few = i.0;
-      long = i.1;
-      within = i.2;
-      spelled = i.3;
-      stops = (
-        took_there ws n t i.4 i.5,
-        omega (arith, i.0, c.if-len-eq64.false),
-        f.0 ∙ took_at ws n t i.4 i.5,
-        subst (λ b. Wrong c.args.roll.now b c.in-Err.fault.cause) (sym (took_word ws n t i.4 i.5)) f.1,
-      );
-    }
+    let room = c.is_full.ensures.value in
+    let n : length c.loop-piece.yielded < 64 = grind arith in
+    found c.args.roll.now c.args.text c.loop-piece.words _ _ _ _ whole begins ran i.few i.as_many i.spelled (
+      there ws _ _ _ whole begins ran _ _ t,
+      n,
+      f.0 ∙ place ws _ _ _ whole begins ran _ _ t,
+      subst (λ b. Wrong c.args.roll.now b c.in-Err.fault.cause) (sym (word ws _ _ _ whole begins ran _ _ t)) f.1,
+    )
 
 pub loop-piece-preserved : goal.loop-piece-preserved
 loop-piece-preserved c =
-    let ws = text_words c.args.text.now in
-    let n = c.loop-piece.len in
-    let t = c.in-Some.ensures.steps in
+    let p = c.push.ensures in
     let i = c.loop-piece.invariant in
-    let there = took_there ws n t i.4 i.5 in (
-      omega (arith, i.0, c.if-len-eq64.false),
-      length-set c.loop-piece.words n c.in-Ok.word ∙ i.1,
-      omega (arith, there),
-      each_more c.args.roll.now c.loop-piece.words n c.in-Ok.word ws _ (omega (arith, i.0, i.1, c.if-len-eq64.false)) there (took_word ws n t i.4 i.5) i.3 c.in-Ok.ensures,
-      took_on ws n t i.4 i.5,
-      took_next ws n t i.4 i.5,
-    )
-
-pub returns : goal.returns
-returns c =
-    let i = c.loop-piece.invariant in
-    record { few = i.0; long = i.1; within = i.2; spelled = i.3; stops = omega (arith, i.2, step_end c.loop-piece.len (text_words c.args.text.now) _ i.4 c.in_default.ensures.steps.0) }
+    let room = c.is_full.ensures.value in
+    let n : length c.loop-piece.words.items < 64 = grind arith in
+    record {
+      few = omega (arith, p.len, n);
+      as_many = omega (arith, p.len, i.as_many, length-append c.loop-piece.yielded (c.in-Some.piece ∷ []));
+      spelled = rw (p.items, map-append) (each_push c.args.roll.now c.loop-piece.words.items (bytes c.loop-piece.yielded) c.in-Ok.word c.in-Some.piece.bytes.now i.spelled c.in-Ok.ensures);
+    }
