@@ -7,13 +7,14 @@ use Rattle.roll.specs.declared.list.List.{List as Which}
 use Rattle.roll.specs.declared.list.List.TheVariants.{Names, Labels, Marks}
 use Rattle.roll.specs.declared.roll.Roll.{Roll}
 use Rattle.roll.proofs.Walks.{some_is, none_some}
+use Rattle.policy_words.specs.Letters.{letter_text}
 use Rattle.policy_words.specs.declared.word.Letter.{Letter}
 use Rattle.policy_words.specs.declared.word.Letter.TheVariants as L
 use Rattle.policy_words.specs.declared.word.Word.{Word}
 use Rattle.policy_words.specs.declared.word.Word.TheVariants as W
 use Rattle.policy_reader.specs.Token.{Sign, mark, Unsigned}
 use Rattle.policy_reader.specs.Token.{Sign as S}
-use Rattle.policy_reader.specs.Spell.{letter_text, Numbered, Operand, sign_of, Spells, bare, Fit, Listed, Breaks, Wrong}
+use Rattle.policy_reader.specs.Spell.{Numbered, Operand, sign_of, Spells, bare, Fit, Listed, Breaks, Wrong}
 use Rattle.policy_reader.specs.declared.fault.Cause.{Cause}
 use Rattle.policy_reader.specs.declared.fault.Cause.TheVariants as C
 

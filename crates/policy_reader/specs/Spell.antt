@@ -1,26 +1,18 @@
 -- How a word of a policy is spelled under a roll, and why some bytes spell none.
-use Rattle.std.specs.Prelude.{◌≡◌, ℕ, ◌<◌, ◌≤◌, Bool, true, false, ◌⊎◌, List, [], ◌++◌, length, Some, codes, MatchBool}
+use Rattle.std.specs.Prelude.{◌≡◌, ℕ, ◌<◌, ◌≤◌, Bool, true, false, ◌⊎◌, List, [], ◌++◌, length, Some, MatchBool}
 use Rattle.text.specs.Word.{Plain, Fine}
 use Rattle.roll.specs.Rolls.{number_of}
 use Rattle.roll.specs.declared.list.List.{List as Which}
 use Rattle.roll.specs.declared.list.List.TheVariants.{Names, Labels, Marks}
 use Rattle.roll.specs.declared.roll.Roll.{Roll}
+use Rattle.policy_words.specs.Letters.{letter_text}
 use Rattle.policy_words.specs.Tree.{Settable}
-use Rattle.policy_words.specs.declared.word.Letter.{Letter}
-use Rattle.policy_words.specs.declared.word.Letter.TheVariants as L
 use Rattle.policy_words.specs.declared.word.Word.{Word}
 use Rattle.policy_words.specs.declared.word.Word.TheVariants as W
 use Rattle.policy_reader.specs.Token.{Sign, mark, Unsigned}
 use Rattle.policy_reader.specs.Token.{Sign as S}
 use Rattle.policy_reader.specs.declared.fault.Cause.{Cause}
 use Rattle.policy_reader.specs.declared.fault.Cause.TheVariants as C
-
--- how a letter is spelled
-abbrev pub letter_text : Letter → List ℕ
-letter_text L.Requester = codes "q"
-letter_text L.Resource = codes "r"
-letter_text L.A = codes "a"
-letter_text L.B = codes "b"
 
 -- how many words of a list a policy can name
 abbrev pub limit : Which → ℕ

@@ -2,10 +2,11 @@
 ghost use Rattle.std.specs.Prelude.{◌≡◌, ℕ, true, false, [], MatchResult};
 ghost use Rattle.text.specs.Word.{Fine};
 ghost use Rattle.roll.specs.declared.roll.Roll.{Roll as Texts};
+ghost use Rattle.policy_words.specs.Letters.{letter_text};
 ghost use Rattle.policy_words.specs.Tree.{Settable};
 ghost use Rattle.policy_words.specs.declared.word.Letter.{Letter as Sign};
 ghost use Rattle.policy_reader.specs.Token.{sign, operand, place};
-ghost use Rattle.policy_reader.specs.Spell.{letter_text, limit, Numbered, Operand, Spells, sign_of, bare, Listed, Breaks, Wrong};
+ghost use Rattle.policy_reader.specs.Spell.{limit, Numbered, Operand, Spells, sign_of, bare, Listed, Breaks, Wrong};
 
 use crate::fault::{Cause, WordFault};
 use crate::token::{Token, cut};

@@ -1,3 +1,4 @@
+pub mod Letters
 pub mod Tree
 pub mod Due
 pub mod Shape

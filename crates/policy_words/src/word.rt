@@ -1,5 +1,6 @@
-ghost use Rattle.std.specs.Prelude.{◌≡◌, ◌+◌, true, false, Decides};
+ghost use Rattle.std.specs.Prelude.{◌≡◌, ◌≢◌, ◌+◌, true, false, Decides, MatchResult};
 ghost use Rattle.policy_words.specs.Due.{paths_of, formulas_of};
+ghost use Rattle.policy_words.specs.Letters.{letter_text};
 ghost use Rattle.policy_words.specs.Tree.{is_path, allowed, Allowed};
 
 // A letter of a policy: the requester (q), the resource (r), or one that a `$` sets (a and b).
@@ -9,6 +10,29 @@ pub enum Letter {
     Resource,
     A,
     B,
+}
+
+// Some bytes are no letter's text.
+#[derive(Clone, Copy, Debug, PartialEq, Eq)]
+pub struct NotALetter;
+
+// The letter whose text the bytes are.
+impl TryFrom<&[u8]> for Letter {
+    ghost use Rattle.policy_words.specs.declared.word.Letter.{Letter as Sign};
+
+    type Error = NotALetter;
+
+    ghost try_from_gives = { λ bs r. MatchResult r (λ v. bs.now ≡ letter_text v) (λ _. (v : Sign) → bs.now ≢ letter_text v) };
+
+    fn try_from(bytes: &[u8]) -> Result<Letter, NotALetter> {
+        match bytes {
+            b"q" => Ok(Letter::Requester),
+            b"r" => Ok(Letter::Resource),
+            b"a" => Ok(Letter::A),
+            b"b" => Ok(Letter::B),
+            _ => Err(NotALetter),
+        }
+    }
 }
 
 // One word of a policy: its sign, and its operand as a number or a letter.
