@@ -1,5 +1,5 @@
 -- A tree by its first word and the trees under it.
-use Rattle.std.proofs.Common.{◌≡◌, ℕ, suc, ◌+◌, ◌<◌, ◌≤◌, List, [], ◌∷◌, ◌++◌, length, get_or, drop, sym, refl, ap, ◌∙◌, inl, inr, append_assoc, append-nil, arith, length-append, length-drop}
+use Rattle.std.proofs.Common.{◌≡◌, ℕ, suc, ◌+◌, ◌<◌, ◌≤◌, List, [], ◌∷◌, ◌++◌, length, get_or, drop, Some, None, Option, sym, refl, ap, ◌∙◌, inl, inr, append_assoc, append-nil, arith, length-append, length-drop}
 use Rattle.std.proofs.lemmas.List.{drop_more, drop-drop, drop_at}
 use Rattle.policy_words.specs.Due.{paths_of, formulas_of}
 use Rattle.policy_words.specs.Tree.Formula.{is, same, has, neg, both, either, at_letter, at_name, bind, some}
@@ -54,12 +54,12 @@ enter_all k [] = []
 enter_all k (t ∷ ts) = enter k t ++ enter_all (k + length (write t)) ts
 
 -- the place of the second operand, where the word is at k
-abbrev pub second_by : ℕ → List Tree → ℕ
-second_by k [] = 0
-second_by k (t ∷ []) = 0
-second_by k (t ∷ u ∷ ts) = k + 1 + length (write t)
+abbrev pub second_by : ℕ → List Tree → Option ℕ
+second_by k [] = None
+second_by k (t ∷ []) = None
+second_by k (t ∷ u ∷ ts) = Some (k + 1 + length (write t))
 
-pub no_second : (k : ℕ) (ts : List Tree) → length ts ≤ 2 → (length ts ≡ 2 → ⊥) → second_by k ts ≡ 0
+pub no_second : (k : ℕ) (ts : List Tree) → length ts ≤ 2 → (length ts ≡ 2 → ⊥) → second_by k ts ≡ None
 no_second k [] le n = refl
 no_second k (t ∷ []) le n = refl
 no_second k (t ∷ u ∷ []) le n = absurd (n refl)

@@ -9,7 +9,7 @@ use Rattle.policy_words.specs.declared.word.Word.{Word}
 use Rattle.policy_words.specs.declared.word.Word.TheVariants as W
 use Rattle.policy_words.proofs.Rows.{heads}
 use Rattle.policy.specs.Table.{size, extent, plain, entries, path_entries, words_in, Reads, PathStands, Stands}
-use Rattle.policy.specs.Linking.{Tree, write, enter, head}
+use Rattle.policy.specs.Linking.{Tree, write, enter, head, IsEntryAt}
 use Rattle.policy.specs.declared.entry.Entry.{Entry}
 use Rattle.policy.proofs.Subtrees.{Has, rooted, kids, write_all, enter_all, node, long, past}
 
@@ -114,13 +114,13 @@ part_of f ws j e lt =
     record { tree = p.tree; rest = p.rest; at = p.at; is = ap (λ i. get_or (entries 0 f) i none) same ∙ p.is }
 
 -- a table whose entries are the first of the trees at their places is the formula's
-pub table_is : (f : Formula) (ws : List Word) (table : List Entry) → words f ≡ ws → length ws ≤ length table → ((k : ℕ) → k < length ws → (t : Tree) (rest : List Word) → drop k ws ≡ write t ++ rest → get_or table k none ≡ head k t) → take (length ws) table ≡ entries 0 f
+pub table_is : (f : Formula) (ws : List Word) (table : List Entry) → words f ≡ ws → length ws ≤ length table → ((k : ℕ) → k < length ws → IsEntryAt ws k (get_or table k none)) → take (length ws) table ≡ entries 0 f
 table_is f ws table e le h =
     let long : length (take (length ws) table) ≡ length ws = length-take-le (length ws) table le in
     ext_get_or none (take (length ws) table) (entries 0 f) (long ∙ sym (ap length e) ∙ sym (entries-length f 0)) (λ i lt.
     let b : i < length ws = omega (arith, long) in
     let p = part_of f ws i e b in
-    get_or-take (length ws) table i none b ∙ h i b p.tree p.rest p.at ∙ sym p.is)
+    get_or-take (length ws) table i none b ∙ (h i b).heads p.tree p.rest p.at ∙ sym p.is)
 
 -- a formula whose entries are in a table stands there
 record Opened (es : List Entry) (k : ℕ) (e : Entry) (more : List Entry) : Type 0 where

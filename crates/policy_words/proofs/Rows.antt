@@ -2,26 +2,14 @@
 use Rattle.std.proofs.Common.{◌≡◌, ℕ, zero, suc, ◌+◌, ◌-◌, ◌<◌, true, false, ◌⊎◌, List, [], ◌∷◌, ◌++◌, length, take, drop, sym, refl, ap, ◌∙◌, subst, append_assoc, append-nil, arith, length-append, length-drop, take-append-drop}
 use Rattle.std.proofs.lemmas.List.{length-take-le}
 use Rattle.std.proofs.lemmas.Bool.{true≢false, false≢true}
-use Rattle.policy_words.specs.Tree.{Formula, Path, words, steps, is_path, Whole, Begins, Unfinished}
+use Rattle.policy_words.specs.Tree.{Formula, Path, words, root, steps, is_path, Whole, Begins, Unfinished}
 use Rattle.policy_words.specs.Due.{paths_of, formulas_of, all_steps, all_words, Row, Turns, Stuck, Owes}
 use Rattle.policy_words.specs.Tree.Formula.{is, same, has, neg, both, either, at_letter, at_name, bind, some}
 use Rattle.policy_words.specs.Tree.Path.{forward, backward, seq, plus, stay}
 use Rattle.policy_words.specs.declared.word.Word.{Word}
 use Rattle.policy_words.specs.declared.word.Word.TheVariants as W
 
--- the first word of a tree, and the trees under it
-abbrev pub root : Formula → Word
-root (is n) = W.Name n
-root (same v) = W.Letter v
-root (has m) = W.Mark m
-root (neg f) = W.Not
-root (both f g) = W.And
-root (either f g) = W.Or
-root (at_letter v f) = W.AtLetter v
-root (at_name n f) = W.AtName n
-root (bind v f) = W.Bind v
-root (some p f) = W.Follow
-
+-- the trees under a formula, and the first word of a path and the paths under it
 abbrev pub paths_under : Formula → List Path
 paths_under (is n) = []
 paths_under (same v) = []

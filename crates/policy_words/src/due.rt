@@ -17,15 +17,12 @@ fn takes(w: Word) -> Due
     ensures formulas { result.formulas ≡ formulas_of w }
     ensures few { result.paths + result.formulas ≤ 2 }
 {
-    let (paths, formulas) = match w {
-        Word::Not | Word::AtLetter(_) | Word::AtName(_) | Word::Bind(_) => (0, 1),
-        Word::And | Word::Or => (0, 2),
-        Word::Follow => (1, 1),
-        Word::Seq => (2, 0),
-        Word::Plus => (1, 0),
-        _ => (0, 0),
-    };
-    Due { paths, formulas }
+    let formulas = w.formulas();
+    let paths = w.operands() - formulas;
+    Due {
+        paths: paths.into(),
+        formulas: formulas.into(),
+    }
 }
 
 impl Due {

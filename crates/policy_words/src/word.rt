@@ -92,6 +92,17 @@ impl Word {
         }
     }
 
+    // How many operands of the word are formulas.
+    pub fn formulas(self) -> u8
+        ensures { result ≡ formulas_of self }
+    {
+        match self {
+            Word::Not | Word::AtLetter(_) | Word::AtName(_) | Word::Bind(_) | Word::Follow => 1,
+            Word::And | Word::Or => 2,
+            _ => 0,
+        }
+    }
+
     // Whether its name number is below 64, its label or mark number below 16, and the letter that
     // it sets a or b.
     pub fn is_allowed(self) -> bool
