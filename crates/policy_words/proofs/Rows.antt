@@ -252,8 +252,8 @@ owes_more ws w i j m n o t rest =
     )
 
 -- nothing is due: the words are a policy
-pub owes_none : (ws : List Word) (i j : ℕ) → Owes ws i j → i ≡ 0 → j ≡ 0 → Whole ws
-owes_none ws i j o a b = subst Whole (append-nil ws) ((o []).1 ([], [], sym a, sym b, refl))
+pub owes_none : (ws : List Word) (i j : ℕ) → Owes ws i j → i + j ≡ 0 → Whole ws
+owes_none ws i j o e = subst Whole (append-nil ws) ((o []).1 ([], [], omega arith, omega arith, refl))
 
 -- something is due: they are not
 pub empty_row : (ps : List Path) (fs : List Formula) → [] ≡ all_steps ps ++ all_words fs → (length ps ≡ 0) × (length fs ≡ 0)
@@ -261,11 +261,11 @@ empty_row [] [] e = (refl, refl)
 empty_row [] (f ∷ fs) e = absurd (no_cons _ _ (sym (e ∙ ap (λ l. l ++ all_words fs) (node f).writes)))
 empty_row (p ∷ ps) fs e = absurd (no_cons _ _ (sym (e ∙ append_assoc (steps p) (all_steps ps) (all_words fs) ∙ ap (λ l. l ++ (all_steps ps ++ all_words fs)) (node_p p).writes)))
 
-pub owes_some : (ws : List Word) (i j : ℕ) → Owes ws i j → 0 < i + j → Whole ws → ⊥
-owes_some ws i j o lt w =
+pub owes_some : (ws : List Word) (i j : ℕ) → Owes ws i j → (i + j ≡ 0 → ⊥) → Whole ws → ⊥
+owes_some ws i j o ne w =
     let r = (o []).0 (subst Whole (sym (append-nil ws)) w) in
     let z = empty_row r.0 r.1 r.4 in
-    omega (arith, z, r.2, r.3)
+    ne (omega (arith, z, r.2, r.3))
 
 -- what is due can always be supplied
 stays : (n : ℕ) → (ps : List Path) × (length ps ≡ n)
@@ -291,5 +291,5 @@ more_due : (ws rest : List Word) (f : Formula) → words f ≡ ws ++ rest → (W
 more_due ws [] f e n = absurd (n (f, e ∙ append-nil ws))
 more_due ws (w ∷ rest) f e n = (f, w, rest, e)
 
-pub owes_unfinished : (ws : List Word) (i j : ℕ) → Owes ws i j → 0 < i + j → Unfinished ws
-owes_unfinished ws i j o lt = let b = owes_begins ws i j o in more_due ws b.1 b.0 b.2 (owes_some ws i j o lt)
+pub owes_unfinished : (ws : List Word) (i j : ℕ) → Owes ws i j → (i + j ≡ 0 → ⊥) → Unfinished ws
+owes_unfinished ws i j o ne = let b = owes_begins ws i j o in more_due ws b.1 b.0 b.2 (owes_some ws i j o ne)

@@ -36,7 +36,7 @@ impl TryFrom<&[u8]> for Letter {
 }
 
 // One word of a policy: its sign, and its operand as a number or a letter.
-#[derive(Clone, Copy)]
+#[derive(Clone, Copy, Debug, PartialEq, Eq)]
 pub enum Word {
     // `#c`: the name c
     Name(u8),
@@ -75,10 +75,10 @@ impl Word {
     pub fn is_path(self) -> bool
         ensures { result ≡ is_path self }
     {
-        match self {
-            Word::Forward(_) | Word::Backward(_) | Word::Seq | Word::Plus | Word::Stay => true,
-            _ => false,
-        }
+        matches!(
+            self,
+            Word::Forward(_) | Word::Backward(_) | Word::Seq | Word::Plus | Word::Stay
+        )
     }
 
     // How many operands the word takes, paths and formulas.
@@ -112,7 +112,7 @@ impl Word {
         match self {
             Word::Name(n) | Word::AtName(n) => n < 64,
             Word::Mark(n) | Word::Forward(n) | Word::Backward(n) => n < 16,
-            Word::Bind(Letter::Requester) | Word::Bind(Letter::Resource) => false,
+            Word::Bind(Letter::Requester | Letter::Resource) => false,
             _ => true,
         }
     }
