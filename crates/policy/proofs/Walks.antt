@@ -1,6 +1,5 @@
 -- A formula in a table, by its first word and the formulas under it.
 use Rattle.std.proofs.Common.{◌≡◌, ℕ, ◌+◌, ◌-◌, ◌<◌, Bool, true, false, cond, ◌||◌, List, [], ◌∷◌, length, get_or, Some, None, Option, sym, refl, ap, ◌∙◌, subst, inl, add-zero, arith}
-use Rattle.std.proofs.lemmas.Bool.{true≢false}
 use Rattle.std.proofs.Math.Bool.{or-false}
 use Rattle.std.proofs.Math.Bridge.{le_prop}
 use mathlib.Core.Logic.{∥∥₁_elim}
@@ -15,14 +14,11 @@ use Rattle.policy.specs.Letters.{has as holds}
 use Rattle.policy.specs.Linking.{head}
 use Rattle.policy.specs.Table.{plain, Stands, Reads}
 use Rattle.policy.specs.Free.{free, first, later, first_loose}
-use Rattle.policy.specs.Anchor.{first_stray}
 use Rattle.policy.specs.Nodes.{operands, Leads, Follows, AreOperands}
-use Rattle.policy.specs.Steps.{free_by, settled, set_by, role, letter_role}
+use Rattle.policy.specs.Steps.{free_by, settled, set_by}
 use Rattle.policy.specs.declared.entry.Entry.{Entry}
 use Rattle.policy.specs.declared.node.Node.{Node}
 use Rattle.policy.specs.declared.node.Operands.TheVariants.{Leaf, One, Two}
-use Rattle.policy.specs.declared.walk.Role.{Role}
-use Rattle.policy.specs.declared.walk.Role.TheVariants.{Joins, Anchors, Other}
 
 -- the entry of a formula's first word
 pub reads : (es : List Entry) (k : ℕ) (f : Formula) → Stands es k f → Reads es k (head k (inl f))
@@ -170,8 +166,8 @@ free_is v (at_name n f) = sym (or-false _)
 free_is v (bind u f) = ap (free_by v (W.Bind u)) (sym (or-false _))
 free_is v (some p f) = sym (or-false _)
 
--- its first loose word, where the first word names only letters that are set, and where it does not
-pub loose_under : (s : Letter → Bool) (f : Formula) → settled s (root f) ≡ true → first_loose s f ≡ first_in (first_loose (set_by (root f) s)) (operands f)
+-- its first loose word, where the first word names only letters that are set
+loose_under : (s : Letter → Bool) (f : Formula) → settled s (root f) ≡ true → first_loose s f ≡ first_in (first_loose (set_by (root f) s)) (operands f)
 loose_under s (is n) h = refl
 loose_under s (same u) h = ap (λ b. cond b None (Some 0)) h
 loose_under s (has m) h = refl
@@ -184,44 +180,8 @@ loose_under s (bind u f) h = sym (first_none _)
 loose_under s (some p f) h = sym (first_none _)
 
 -- by the letters t that are set in the operands
-pub loose_in : (s t : Letter → Bool) (w : Word) (f : Formula) → w ≡ root f → true ≡ settled s w → ((v : Letter) → t v ≡ set_by w s v) → first_loose s f ≡ first_in (first_loose t) (operands f)
-loose_in s t w f e h d = loose_under s f (sym (ap (settled s) e) ∙ sym h) ∙ ap (λ x. first_in (first_loose x) (operands f)) (ap (λ x. set_by x s) (sym e) ∙ (λ i v. sym (d v) i))
-
-pub loose_here : (s : Letter → Bool) (f : Formula) → settled s (root f) ≡ false → first_loose s f ≡ Some 0
-loose_here s (is n) h = absurd (true≢false h)
-loose_here s (same u) h = ap (λ b. cond b None (Some 0)) h
-loose_here s (has m) h = absurd (true≢false h)
-loose_here s (neg f) h = absurd (true≢false h)
-loose_here s (both f g) h = absurd (true≢false h)
-loose_here s (either f g) h = absurd (true≢false h)
-loose_here s (at_letter u f) h = ap (λ b. first (cond b None (Some 0)) (later 1 (first_loose s f))) h
-loose_here s (at_name n f) h = absurd (true≢false h)
-loose_here s (bind u f) h = absurd (true≢false h)
-loose_here s (some p f) h = absurd (true≢false h)
-
--- its first stray word, by the role of its first word
-abbrev pub StrayBy : Formula → Role → Type 0
-StrayBy f Joins = first_stray f ≡ first_in first_stray (operands f)
-StrayBy f Anchors = first_stray f ≡ None
-StrayBy f Other = first_stray f ≡ Some 0
-
-by_letter : (v : Letter) (f : Formula) → StrayBy (at_letter v f) (letter_role v)
-by_letter L.Requester f = refl
-by_letter L.Resource f = refl
-by_letter L.A f = refl
-by_letter L.B f = refl
-
-pub stray_is : (f : Formula) → StrayBy f (role (root f))
-stray_is (is n) = refl
-stray_is (same u) = refl
-stray_is (has m) = refl
-stray_is (neg f) = sym (first_none _)
-stray_is (both f g) = ap (first (later 1 (first_stray f))) (sym (first_none _))
-stray_is (either f g) = ap (first (later 1 (first_stray f))) (sym (first_none _))
-stray_is (at_letter v f) = by_letter v f
-stray_is (at_name n f) = refl
-stray_is (bind u f) = refl
-stray_is (some p f) = refl
+pub loose_in : (s t : Letter → Bool) (w : Word) (f : Formula) → w ≡ root f → settled s w ≡ true → ((v : Letter) → t v ≡ set_by w s v) → first_loose s f ≡ first_in (first_loose t) (operands f)
+loose_in s t w f e h d = loose_under s f (sym (ap (settled s) e) ∙ h) ∙ ap (λ x. first_in (first_loose x) (operands f)) (ap (λ x. set_by x s) (sym e) ∙ (λ i v. sym (d v) i))
 
 -- the operands of the first word of a formula, by how many of them are formulas and by its second operand
 abbrev OneAt : Node → ℕ → Option ℕ → Type 0

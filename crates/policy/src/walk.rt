@@ -1,25 +1,17 @@
 // Walks over a table, from a word to its operands: each operand's place is above the word's.
-ghost use Rattle.std.specs.Prelude.{◌≡◌, ◌+◌, ◌<◌, length};
+ghost use Rattle.std.specs.Prelude.{◌≡◌, ◌+◌, ◌<◌, length, true, false, MatchOption};
 ghost use Rattle.policy_words.specs.Tree.{Formula, root};
 ghost use Rattle.policy_words.specs.declared.word.Letter.{Letter as Sign};
 ghost use Rattle.policy.specs.Letters.{has};
 ghost use Rattle.policy.specs.Free.{free, later, first_loose};
 ghost use Rattle.policy.specs.Anchor.{first_stray};
 ghost use Rattle.policy.specs.Nodes.{Leads, AreOperands, operands};
-ghost use Rattle.policy.specs.Steps.{free_by, settled, set_by, role};
+ghost use Rattle.policy.specs.Steps.{free_by, settled, set_by};
 
 use crate::entry::Entry;
 use crate::letters::Letters;
 use crate::node::{Node, Operands};
 use policy_words::word::{Letter, Word};
-
-// What a word is to an anchored policy.
-#[derive(Clone, Copy)]
-pub enum Role {
-    Joins,
-    Anchors,
-    Other,
-}
 
 // What a word makes of the letters left free in its operands.
 fn left_free(w: Word, inner: Letters) -> Letters
@@ -32,34 +24,15 @@ fn left_free(w: Word, inner: Letters) -> Letters
     }
 }
 
-// Whether the word names no letter but those that are set.
-fn is_settled(w: Word, set: Letters) -> bool
-    ensures { result ≡ settled (λ v. has v set) w }
+// The letters that are set in the operands of the word, or none where the word names a letter that
+// is not set.
+fn set_under(w: Word, set: Letters) -> Option<Letters>
+    ensures { MatchOption result (settled (λ v. has v set) w ≡ false) (λ inner. (settled (λ v. has v set) w ≡ true) × ((v : Sign) → has v inner ≡ set_by w (λ u. has u set) v)) }
 {
     match w {
-        Word::Letter(v) | Word::AtLetter(v) => set.contains(v),
-        _ => true,
-    }
-}
-
-// The letters that are set in the operands of the word.
-fn set_by(w: Word, set: Letters) -> Letters
-    ensures { (v : Sign) → has v result ≡ set_by w (λ u. has u set) v }
-{
-    match w {
-        Word::Bind(v) => set.with(v),
-        _ => set,
-    }
-}
-
-// What the word is to an anchored policy.
-fn role_of(w: Word) -> Role
-    ensures { result ≡ role w }
-{
-    match w {
-        Word::Not | Word::And | Word::Or => Role::Joins,
-        Word::AtLetter(Letter::Requester) | Word::AtLetter(Letter::Resource) => Role::Anchors,
-        _ => Role::Other,
+        Word::Letter(v) | Word::AtLetter(v) => set.contains(v).then_some(set),
+        Word::Bind(v) => Some(set.with(v)),
+        _ => Some(set),
     }
 }
 
@@ -108,11 +81,9 @@ impl<'a> Node<'a> {
     pub fn first_loose(self, set: Letters) -> Option<usize>
         ensures { (f : Formula) → Leads self.entry f → result ≡ later self.entry.at (first_loose (λ v. has v set) f) }
     {
-        let word = self.word();
-        if !is_settled(word, set) {
+        let Some(inner) = set_under(self.word(), set) else {
             return Some(self.at);
-        }
-        let inner = set_by(word, set);
+        };
         match self.operands() {
             Operands::Leaf => None,
             Operands::One(f) => f.first_loose(inner),
@@ -127,10 +98,10 @@ impl<'a> Node<'a> {
     pub fn first_stray(self) -> Option<usize>
         ensures { (f : Formula) → Leads self.entry f → result ≡ later self.entry.at (first_stray f) }
     {
-        match role_of(self.word()) {
-            Role::Anchors => return None,
-            Role::Other => return Some(self.at),
-            Role::Joins => {}
+        match self.word() {
+            Word::AtLetter(Letter::Requester | Letter::Resource) => return None,
+            Word::Not | Word::And | Word::Or => {}
+            _ => return Some(self.at),
         }
         match self.operands() {
             Operands::Leaf => None,
