@@ -1,5 +1,5 @@
 -- A formula in a table, by its first word and the formulas under it.
-use Rattle.std.proofs.Common.{◌≡◌, ℕ, ◌+◌, ◌-◌, ◌<◌, Bool, true, false, cond, ◌||◌, List, [], ◌∷◌, length, get_or, Some, None, Option, sym, refl, ap, ◌∙◌, subst, inl, add-zero, arith}
+use Rattle.std.proofs.Common.{◌≡◌, ℕ, ◌+◌, ◌<◌, Bool, true, false, cond, ◌||◌, List, [], ◌∷◌, length, get_or, Some, None, Option, sym, refl, ap, ◌∙◌, subst, inl, add-zero, arith}
 use Rattle.std.proofs.Math.Bool.{or-false}
 use Rattle.std.proofs.Math.Bridge.{le_prop}
 use mathlib.Core.Logic.{∥∥₁_elim}
@@ -14,10 +14,11 @@ use Rattle.policy.specs.Letters.{has as holds}
 use Rattle.policy.specs.Linking.{head}
 use Rattle.policy.specs.Table.{plain, Stands, Reads}
 use Rattle.policy.specs.Free.{free, first, later, first_loose}
-use Rattle.policy.specs.Nodes.{operands, Leads, Follows, AreOperands}
+use Rattle.policy.specs.Nodes.{operands, Leads, Follows, AreOperands, left, HaveFewer}
 use Rattle.policy.specs.Steps.{free_by, settled, set_by}
 use Rattle.policy.specs.declared.entry.Entry.{Entry}
 use Rattle.policy.specs.declared.node.Node.{Node}
+use Rattle.policy.specs.declared.node.Operands.{Operands}
 use Rattle.policy.specs.declared.node.Operands.TheVariants.{Leaf, One, Two}
 
 -- the entry of a formula's first word
@@ -137,21 +138,16 @@ none_of n [] a = refl
 none_of n (p ∷ []) a = absurd a
 none_of n (p ∷ q ∷ ps) a = absurd a
 
--- the table behind an operand is shorter
-abbrev pub left : Node → ℕ
-left n = length n.table.now - n.at
-
 shorter : (n x : Node) → n.at < x.at → x.table.now ≡ n.table.now → left x < left n
 shorter n x lt e = omega (arith, lt, within n, within x, ap length e)
 
-pub one_shorter : (n x : Node) → ((f : Formula) → Leads n f → AreOperands n (operands f) (One x)) → left x < left n
-one_shorter n x h = ∥∥₁_elim n.formula le_prop (λ f. let o = one_of n (operands f.0) x (h f.0 f.1) in shorter n x o.rises o.table)
-
-pub two_shorter : (n x y : Node) → ((f : Formula) → Leads n f → AreOperands n (operands f) (Two x y)) → left x < left n
-two_shorter n x y h = ∥∥₁_elim n.formula le_prop (λ f. let o = two_of n (operands f.0) x y (h f.0 f.1) in shorter n x o.rises o.table)
-
-pub next_shorter : (n x y : Node) → ((f : Formula) → Leads n f → AreOperands n (operands f) (Two x y)) → left y < left n
-next_shorter n x y h = ∥∥₁_elim n.formula le_prop (λ f. let o = two_of n (operands f.0) x y (h f.0 f.1) in shorter n y o.rises_next o.table_next)
+pub have_fewer : (n : Node) (o : Operands) → ((f : Formula) → Leads n f → AreOperands n (operands f) o) → HaveFewer n o
+have_fewer n Leaf h = tt
+have_fewer n (One x) h = ∥∥₁_elim n.formula le_prop (λ f. let o = one_of n (operands f.0) x (h f.0 f.1) in shorter n x o.rises o.table)
+have_fewer n (Two x y) h = (
+  ∥∥₁_elim n.formula le_prop (λ f. let o = two_of n (operands f.0) x y (h f.0 f.1) in shorter n x o.rises o.table),
+  ∥∥₁_elim n.formula le_prop (λ f. let o = two_of n (operands f.0) x y (h f.0 f.1) in shorter n y o.rises_next o.table_next),
+)
 
 -- a formula by its first word and its operands: the letters that it leaves free
 pub free_is : (v : Letter) (f : Formula) → free v f ≡ free_by v (root f) (any_free v (operands f))

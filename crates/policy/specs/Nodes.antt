@@ -1,5 +1,5 @@
 -- The formulas that stand in a table, by their first words.
-use Rattle.std.specs.Prelude.{◌≡◌, ℕ, ◌+◌, List, [], ◌∷◌}
+use Rattle.std.specs.Prelude.{◌≡◌, ℕ, ◌+◌, ◌-◌, ◌<◌, length, List, [], ◌∷◌}
 use Rattle.policy_words.specs.Tree.{Formula}
 use Rattle.policy_words.specs.Tree.Formula.{is, same, has, neg, both, either, at_letter, at_name, bind, some}
 use Rattle.policy.specs.Table.{size, extent, Stands}
@@ -41,3 +41,13 @@ AreOperands n (p ∷ []) (Two x y) = ⊥
 AreOperands n (p ∷ q ∷ ps) Leaf = ⊥
 AreOperands n (p ∷ q ∷ ps) (One x) = ⊥
 AreOperands n (p ∷ q ∷ ps) (Two x y) = (ps ≡ []) × Follows n p x × Follows n q y
+
+-- how many words of the table are left from the word n on
+abbrev pub left : Node → ℕ
+left n = length n.table.now - n.at
+
+-- from each of the operands on, fewer words are left than from n on
+abbrev pub HaveFewer : Node → Operands → Type 0
+HaveFewer n Leaf = Unit {0}
+HaveFewer n (One x) = left x < left n
+HaveFewer n (Two x y) = (left x < left n) × (left y < left n)

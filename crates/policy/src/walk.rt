@@ -5,7 +5,7 @@ ghost use Rattle.policy_words.specs.declared.word.Letter.{Letter as Sign};
 ghost use Rattle.policy.specs.Letters.{has};
 ghost use Rattle.policy.specs.Free.{free, later, first_loose};
 ghost use Rattle.policy.specs.Anchor.{first_stray};
-ghost use Rattle.policy.specs.Nodes.{Leads, AreOperands, operands};
+ghost use Rattle.policy.specs.Nodes.{Leads, AreOperands, HaveFewer, operands};
 ghost use Rattle.policy.specs.Steps.{free_by, settled, set_by};
 
 use crate::entry::Entry;
@@ -46,7 +46,8 @@ impl<'a> Node<'a> {
 
     // The operands of the word that are formulas.
     fn operands(self) -> Operands<'a>
-        ensures { (f : Formula) → Leads self.entry f → AreOperands self.entry (operands f) result }
+        ensures operands { (f : Formula) → Leads self.entry f → AreOperands self.entry (operands f) result }
+        ensures fewer { HaveFewer self.entry result }
     {
         let Node { table, at } = self;
         let entry = table[at];
