@@ -20,6 +20,7 @@ use Rattle.policy.specs.declared.entry.Entry.{Entry}
 use Rattle.policy.specs.declared.node.Node.{Node}
 use Rattle.policy.specs.declared.node.Operands.{Operands}
 use Rattle.policy.specs.declared.node.Operands.TheVariants.{Leaf, One, Two}
+use Rattle.policy.proofs.Subtrees.{node}
 
 -- the entry of a formula's first word
 pub reads : (es : List Entry) (k : ℕ) (f : Formula) → Stands es k f → Reads es k (head k (inl f))
@@ -34,24 +35,12 @@ reads es k (at_name n f) r = r.0
 reads es k (bind v f) r = r.0
 reads es k (some p f) r = r.0
 
-head_word : (k : ℕ) (f : Formula) → (head k (inl f)).word ≡ root f
-head_word k (is n) = refl
-head_word k (same v) = refl
-head_word k (has m) = refl
-head_word k (neg f) = refl
-head_word k (both f g) = refl
-head_word k (either f g) = refl
-head_word k (at_letter v f) = refl
-head_word k (at_name n f) = refl
-head_word k (bind v f) = refl
-head_word k (some p f) = refl
-
 -- the entry at a place
 abbrev pub here : Node → Entry
 here n = get_or n.table.now n.at (plain (W.Name 0))
 
 pub word_is : (n : Node) (f : Formula) → Leads n f → (here n).word ≡ root f
-word_is n f l = ap (λ e. e.word) (reads n.table.now n.at f l).1 ∙ head_word n.at f
+word_is n f l = ap (λ e. e.word) (reads n.table.now n.at f l).1 ∙ (node (inl f)).word n.at
 
 pub below : (es : List Entry) (k : ℕ) (f : Formula) → Stands es k f → k < length es
 below es k f s = (reads es k f s).0

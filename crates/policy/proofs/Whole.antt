@@ -8,7 +8,7 @@ use Rattle.policy_words.specs.Tree.{Formula, words, EachAllowed, each_allowed}
 use Rattle.policy_words.specs.declared.word.Word.{Word}
 use Rattle.policy_words.proofs.Rows.{heads, no_cons}
 use Rattle.policy_words.proofs.Unique.{one_tree}
-use Rattle.policy_words.proofs.Decide.{tree}
+use Rattle.policy_words.proofs.Decide.{tree, held}
 use Rattle.policy_words.proofs.Allows.{each_allows, allows_each}
 use Rattle.policy.specs.Letters.{given}
 use Rattle.policy.specs.Table.{size, entries, words_in}
@@ -70,10 +70,6 @@ dec_of es f e = go (dec_entries es (entries 0 f) (sym e ∙ sym (entries-words f
     go (yes a) (yes b) = yes (a, b)
     go (yes a) (no n) = no (λ h. n h.1)
     go (no n) b = no (λ h. n h.0)
-
-held : {A : Type 0} → Dec A → ∥ A ∥₁ → A
-held (yes a) t = a
-held (no n) t = absurd (∥∥₁_elim t ⊥_prop n)
 
 -- words of a table that is a formula's
 pub words_of : (es : List Entry) (f : Formula) → es ≡ entries 0 f → words f ≡ words_in es

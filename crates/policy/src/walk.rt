@@ -38,6 +38,7 @@ fn set_under(w: Word, set: Letters) -> Option<Letters>
 
 impl<'a> Node<'a> {
     // The word.
+    #[tactic(auto, using(crate::proofs::Walks::within))]
     fn word(self) -> Word
         ensures { (f : Formula) → Leads self.entry f → result ≡ root f }
     {
@@ -45,6 +46,7 @@ impl<'a> Node<'a> {
     }
 
     // The operands of the word that are formulas.
+    #[tactic(auto, using(crate::proofs::Walks::within))]
     fn operands(self) -> Operands<'a>
         ensures operands { (f : Formula) → Leads self.entry f → AreOperands self.entry (operands f) result }
         ensures fewer { HaveFewer self.entry result }

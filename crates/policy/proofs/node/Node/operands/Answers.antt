@@ -6,12 +6,6 @@ use Rattle.policy.proofs.Walks.{within, shape, single_next, single_second, pair,
 use Rattle.policy.proofs.node.Node.operands.Goals as goal
 use Rattle.policy.proofs.node.Node.operands.Goals.{in_default-via-in-2+in-None, in_default-via-in_default}
 
-pub offset_bounds-table-at : goal.offset_bounds-table-at
-offset_bounds-table-at c = omega (arith, within c.args.self, c.args.self.few)
-
-pub bounds-table-at : goal.bounds-table-at
-bounds-table-at c = within c.args.self
-
 pub invariant_of-result : goal.invariant_of-result
 invariant_of-result c =
     let n = c.args.self in
