@@ -1,44 +1,45 @@
 -- The steps of making a policy from words.
-use Rattle.std.proofs.Common.{◌≡◌, ℕ, zero, suc, ◌+◌, ◌-◌, ◌<◌, ◌≤◌, true, false, List, [], ◌∷◌, ◌++◌, length, get_or, take, drop, Some, None, Option, sym, refl, ap, ◌∙◌, subst, inl, inr, arith}
+use Rattle.std.proofs.Common.{◌≡◌, ℕ, ◌+◌, ◌-◌, ◌<◌, ◌≤◌, Bool, true, false, not, List, [], ◌∷◌, length, get_or, take, Some, None, Option, MatchOption, sym, refl, ap, ◌∙◌, subst, inl, inr, arith}
 use borrow.Rule.Slice.PartMut.{mid_of}
-use Rattle.std.proofs.lemmas.List.{take_more, get_or-take, length-take-le}
-use Rattle.std.proofs.lemmas.Bool.{and_parts, and_from, true≢false, cases_lt}
+use Rattle.std.specs.List.{position, position_from}
+use Rattle.std.proofs.lemmas.Iterator.Adapters.{position_from-zero}
+use Rattle.std.proofs.lemmas.List.Quantifiers.{position-Some}
+use Rattle.std.proofs.lemmas.Option.{none-some}
+use Rattle.std.proofs.lemmas.Bool.{and_from, true≢false, cases_lt, cases_Bool, cond-true, cond-false, not-true, not-false}
 use Rattle.policy_words.specs.Tree.{Formula, words, allowed, each_allowed}
 use Rattle.policy_words.specs.declared.word.Word.{Word}
 use Rattle.policy_words.specs.declared.word.Word.TheVariants.{Name}
 use Rattle.policy_words.proofs.Allows.{allows}
-use Rattle.policy.specs.Free.{First, later}
+use Rattle.policy.specs.Free.{First, later, first_loose}
 use Rattle.policy.specs.Policies.{Forbidden}
 use Rattle.policy.specs.declared.entry.Entry.{Entry}
 use Rattle.policy.specs.Letters.{has, given}
 use Rattle.policy.specs.Table.{entries, Stands}
-use Rattle.policy.specs.Linking.{Tree, write, head}
+use Rattle.policy.specs.Linking.{IsEntryAt}
 use Rattle.policy_words.specs.declared.word.Letter.{Letter}
 use Rattle.policy_words.specs.declared.word.Letter.TheVariants as L
 use Rattle.policy.proofs.Places.{Tells}
 use Rattle.policy.proofs.Tables.{table_is, none, entries-length, stands_whole}
-use Rattle.policy.proofs.Walks.{below}
 
-each_push : (ws : List Word) (w : Word) → each_allowed ws ≡ true → allowed w ≡ true → each_allowed (ws ++ w ∷ []) ≡ true
-each_push [] w e h = and_from (allowed w) true h refl
-each_push (v ∷ ws) w e h = let p = and_parts (allowed v) (each_allowed ws) e in and_from (allowed v) (each_allowed (ws ++ w ∷ [])) p.0 (each_push ws w p.1 h)
+-- a word that is not allowed
+abbrev pub barred : Word → Bool
+barred w = not (allowed w)
 
-pub each_more : (ws : List Word) (k : ℕ) → k < length ws → each_allowed (take k ws) ≡ true → true ≡ allowed (get_or ws k (Name 0)) → each_allowed (take (k + 1) ws) ≡ true
-each_more ws k lt e h = subst (λ l. each_allowed l ≡ true) (sym (take_more ws k (Name 0) lt)) (each_push (take k ws) (get_or ws k (Name 0)) e (sym h))
+none_barred : (ws : List Word) (i : ℕ) → None ≡ position_from barred i ws → each_allowed ws ≡ true
+none_barred [] i e = refl
+none_barred (w ∷ ws) i e = elim (cases_Bool (allowed w)) [
+  | inl t ↦ and_from (allowed w) (each_allowed ws) t (none_barred ws (i + 1) (e ∙ cond-false _ _ _ (ap not t)))
+  | inr f ↦ absurd (none-some i (e ∙ cond-true _ _ _ (ap not f)))
+]
 
-each_at : (ws : List Word) (j : ℕ) → each_allowed ws ≡ true → j < length ws → allowed (get_or ws j (Name 0)) ≡ true
-each_at [] j e lt = absurd (omega arith)
-each_at (w ∷ ws) zero e lt = (and_parts (allowed w) (each_allowed ws) e).0
-each_at (w ∷ ws) (suc j) e lt = each_at ws j (and_parts (allowed w) (each_allowed ws) e).1 (omega arith)
-
-pub forbidden_here : (ws : List Word) (k : ℕ) → k < length ws → each_allowed (take k ws) ≡ true → false ≡ allowed (get_or ws k (Name 0)) → First (Forbidden ws) k
-forbidden_here ws k lt e h = (
-  (lt, λ a. true≢false (sym ((allows (get_or ws k (Name 0))).1 a) ∙ sym h)),
-  λ j f. elim (cases_lt j k) [
-    | inr ge ↦ ge
-    | inl less ↦ absurd (f.1 ((allows (get_or ws j (Name 0))).0 (ap allowed (sym (get_or-take k ws j (Name 0) less)) ∙ each_at (take k ws) j e (omega (arith, length-take-le k ws (omega arith))))))
-  ],
-)
+-- the first word that is not allowed
+pub first_barred : (ws : List Word) (o : Option ℕ) → o ≡ position barred ws → MatchOption o (each_allowed ws ≡ true) (λ k. First (Forbidden ws) k)
+first_barred ws None e = none_barred ws 0 (e ∙ position_from-zero barred ws)
+first_barred ws (Some k) e =
+    let p = position-Some barred ws k (Name 0) (sym e) in (
+      (p.0, λ a. true≢false (sym ((allows (get_or ws k (Name 0))).1 a) ∙ not-true _ p.1)),
+      λ j f. elim (cases_lt j k) [ inr ge ↦ ge | inl less ↦ absurd (f.1 ((allows (get_or ws j (Name 0))).0 (not-false _ (p.2 j less)))) ],
+    )
 
 -- the first part of a table
 pub front : (n : ℕ) (xs : List Entry) → mid_of 0 (n - 0) xs ≡ take n xs
@@ -52,23 +53,25 @@ later_none (Some k) = ap Some (omega arith)
 pub from_start : (x o : Option ℕ) (P : ℕ → Type 0) → Tells o P → x ≡ later 0 o → Tells x P
 from_start x o P t e = subst (λ y. Tells y P) (sym (e ∙ later_none o)) t
 
-pub has-given : (v : Letter) → has v (record { requester = true; resource = true; a = false; b = false }) ≡ given v
+has-given : (v : Letter) → has v (record { requester = true; resource = true; a = false; b = false }) ≡ given v
 has-given L.Requester = refl
 has-given L.Resource = refl
 has-given L.A = refl
 has-given L.B = refl
 
+pub loose_given : (f : Formula) → later 0 (first_loose (λ v. has v (record { requester = true; resource = true; a = false; b = false })) f) ≡ later 0 (first_loose given f)
+loose_given f = ap (λ s. later 0 (first_loose s f)) (λ i v. has-given v i)
+
 -- the table that is made is the formula's
 pub record Ready (ws : List Word) (table : List Entry) (f : Formula) : Type 0 where
   pub is : take (length ws - 0) table ≡ entries 0 f
   pub stands : Stands (take (length ws - 0) table) 0 f
-  pub few : length (take (length ws - 0) table) < 1000
-  pub within : 0 < length (take (length ws - 0) table)
+  pub few : length (take (length ws - 0) table) ≤ 64
   pub whole : take (length ws) table ≡ entries 0 f
 
-pub ready : (ws : List Word) (table : List Entry) (f : Formula) → words f ≡ ws → length ws ≤ 64 → length table ≡ 64 → ((k : ℕ) → k < length ws → (t : Tree) (rest : List Word) → drop k ws ≡ write t ++ rest → get_or table k none ≡ head k t) → Ready ws table f
+pub ready : (ws : List Word) (table : List Entry) (f : Formula) → words f ≡ ws → length ws ≤ 64 → length table ≡ 64 → ((k : ℕ) → k < length ws → IsEntryAt ws k (get_or table k none)) → Ready ws table f
 ready ws table f e le long h =
     let w = table_is f ws table e (omega arith) h in
     let t = front (length ws) table ∙ w in
     let s = stands_whole f _ t in
-    record { is = t; stands = s; few = omega (arith, ap length t, entries-length f 0, ap length e); within = below _ _ f s; whole = w }
+    record { is = t; stands = s; few = omega (arith, ap length t, entries-length f 0, ap length e); whole = w }

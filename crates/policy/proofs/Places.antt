@@ -1,6 +1,6 @@
 -- First places: the functions and the relations, and what the relations say.
 use Rattle.std.proofs.Common.{◌≡◌, ℕ, ◌+◌, ◌<◌, ◌≤◌, Bool, true, false, cond, not, ◌&&◌, ◌||◌, eqb, ◌⊎◌, Some, None, Option, sym, refl, ap, ◌∙◌, subst, inl, inr, arith, length-append}
-use Rattle.std.proofs.lemmas.Bool.{true≢false, false≢true, eqb-true}
+use Rattle.std.proofs.lemmas.Bool.{true≢false, false≢true, eqb-true, or_cases, or_left, or_right, and_parts, and_from, not-true, not_from_false, true_from_ne_false}
 use Rattle.policy_words.specs.Tree.{Formula, words, steps}
 use Rattle.policy_words.specs.Tree.Formula.{is, same, has, neg, both, either, at_letter, at_name, bind, some}
 use Rattle.policy_words.specs.declared.word.Letter.{Letter}
@@ -111,26 +111,6 @@ alike_self L.Resource = refl
 alike_self L.A = refl
 alike_self L.B = refl
 
-or_cases : (a b : Bool) → (a || b) ≡ true → (a ≡ true) ⊎ (b ≡ true)
-or_cases true b e = inl refl
-or_cases false b e = inr e
-
-or_left : (a b : Bool) → a ≡ true → (a || b) ≡ true
-or_left true b e = refl
-or_left false b e = absurd (false≢true e)
-
-or_right : (a b : Bool) → b ≡ true → (a || b) ≡ true
-or_right true b e = refl
-or_right false b e = e
-
-not_and : (a b : Bool) → (not a && b) ≡ true → (a ≡ false) × (b ≡ true)
-not_and true b e = absurd (false≢true e)
-not_and false b e = (refl, e)
-
-pub not_and_from : (a b : Bool) → a ≡ false → b ≡ true → (not a && b) ≡ true
-not_and_from true b e h = absurd (true≢false e)
-not_and_from false b e h = h
-
 or_other : (a b : Bool) → a ≡ false → (a || b) ≡ true → b ≡ true
 or_other true b e h = absurd (true≢false e)
 or_other false b e h = h
@@ -138,14 +118,10 @@ or_other false b e h = h
 set_there : (s : Letter → Bool) (v u : Letter) → alike v u ≡ true → s u ≡ true → s v ≡ true
 set_there s v u e h = ap s (alike_same v u e) ∙ h
 
-not_loose : (b : Bool) → (b ≡ false → ⊥) → b ≡ true
-not_loose true n = refl
-not_loose false n = absurd (n refl)
-
 -- no loose word: only letters that are set are free
 free_set : (f : Formula) (s : Letter → Bool) → Nowhere (Loose s f) → (v : Letter) → free v f ≡ true → s v ≡ true
 free_set (is n) s h v e = absurd (false≢true e)
-free_set (same u) s h v e = set_there s v u e (not_loose (s u) (λ x. h 0 (refl, x)))
+free_set (same u) s h v e = set_there s v u e (true_from_ne_false (s u) (λ x. h 0 (refl, x)))
 free_set (has m) s h v e = absurd (false≢true e)
 free_set (neg f) s h v e = free_set f s (λ k l. h (1 + k) (k, refl, l)) v e
 free_set (both f g) s h v e = elim (or_cases (free v f) (free v g) e) [
@@ -157,13 +133,13 @@ free_set (either f g) s h v e = elim (or_cases (free v f) (free v g) e) [
   | inr b ↦ free_set g s (λ k l. h (1 + size f + k) (inr (k, refl, l))) v b
 ]
 free_set (at_letter u f) s h v e = elim (or_cases (alike v u) (free v f) e) [
-  | inl a ↦ set_there s v u a (not_loose (s u) (λ x. h 0 (inl (refl, x))))
+  | inl a ↦ set_there s v u a (true_from_ne_false (s u) (λ x. h 0 (inl (refl, x))))
   | inr b ↦ free_set f s (λ k l. h (1 + k) (inr (k, refl, l))) v b
 ]
 free_set (at_name n f) s h v e = free_set f s (λ k l. h (1 + k) (k, refl, l)) v e
 free_set (bind u f) s h v e =
-    let p = not_and (alike v u) (free v f) e in
-    or_other (alike v u) (s v) p.0 (free_set f (setting u s) (λ k l. h (1 + k) (k, refl, l)) v p.1)
+    let p = and_parts (not (alike v u)) (free v f) e in
+    or_other (alike v u) (s v) (not-true (alike v u) p.0) (free_set f (setting u s) (λ k l. h (1 + k) (k, refl, l)) v p.1)
 free_set (some p f) s h v e = free_set f s (λ k l. h (1 + extent p + k) (k, refl, l)) v e
 
 free_under_bind : (s : Letter → Bool) (v u : Letter) (b : Bool) → alike v u ≡ b → (b ≡ false → s v ≡ true) → setting u s v ≡ true
@@ -188,7 +164,7 @@ set_nowhere (at_letter u f) s h k l = elim l [
   | inr b ↦ set_nowhere f s (λ v e. h v (or_right (alike v u) (free v f) e)) b.0 b.2
 ]
 set_nowhere (at_name n f) s h k l = set_nowhere f s h l.0 l.2
-set_nowhere (bind u f) s h k l = set_nowhere f (setting u s) (λ v e. free_under_bind s v u (alike v u) refl (λ x. h v (not_and_from (alike v u) (free v f) x e))) l.0 l.2
+set_nowhere (bind u f) s h k l = set_nowhere f (setting u s) (λ v e. free_under_bind s v u (alike v u) refl (λ x. h v (and_from (not (alike v u)) (free v f) (not_from_false (alike v u) x) e))) l.0 l.2
 set_nowhere (some p f) s h k l = set_nowhere f s h l.0 l.2
 
 pub closed_is_free : ClosedIsFree
@@ -222,11 +198,3 @@ nowhere_anchored (some p f) h = absurd (h 0 refl)
 
 pub anchored_is : AnchoredIsAstrayNowhere
 anchored_is f = (anchored_nowhere f, nowhere_anchored f)
-
--- what the functions tell
-pub told : (o : Option ℕ) (x : Option ℕ) (P : ℕ → Type 0) → Tells o P → x ≡ o → Tells x P
-told o x P t e = subst (λ y. Tells y P) (sym e) t
-
-pub told_none : (o : Option ℕ) (P : ℕ → Type 0) → Tells o P → Nowhere P → o ≡ None
-told_none None P t h = refl
-told_none (Some k) P t h = absurd (h k t.0)

@@ -1,31 +1,19 @@
 -- A tree by its first word and the trees under it.
-use Rattle.std.proofs.Common.{◌≡◌, ℕ, suc, ◌+◌, ◌<◌, ◌≤◌, List, [], ◌∷◌, ◌++◌, length, get_or, drop, sym, refl, ap, ◌∙◌, inl, inr, append_assoc, append-nil, arith, length-append, length-drop}
+use Rattle.std.proofs.Common.{◌≡◌, ℕ, suc, ◌+◌, ◌<◌, ◌≤◌, List, [], ◌∷◌, ◌++◌, length, get_or, drop, Some, None, Option, sym, refl, ap, ◌∙◌, inl, inr, append_assoc, append-nil, arith, length-append, length-drop}
 use Rattle.std.proofs.lemmas.List.{drop_more, drop-drop, drop_at}
 use Rattle.policy_words.specs.Due.{paths_of, formulas_of}
 use Rattle.policy_words.specs.Tree.Formula.{is, same, has, neg, both, either, at_letter, at_name, bind, some}
 use Rattle.policy_words.specs.Tree.Path.{forward, backward, seq, plus, stay}
 use Rattle.policy_words.specs.declared.word.Word.{Word}
 use Rattle.policy_words.specs.declared.word.Word.TheVariants as W
-use Rattle.policy_words.proofs.Rows.{len1, len2, heads}
+use Rattle.policy_words.specs.Tree.{root as first_word}
+use Rattle.policy_words.proofs.Rows.{len1, len2, heads, root_p}
 use Rattle.policy.specs.Linking.{Tree, write, enter, head}
 use Rattle.policy.specs.declared.entry.Entry.{Entry}
 
 abbrev pub root : Tree → Word
-root (inl (is n)) = W.Name n
-root (inl (same v)) = W.Letter v
-root (inl (has m)) = W.Mark m
-root (inl (neg f)) = W.Not
-root (inl (both f g)) = W.And
-root (inl (either f g)) = W.Or
-root (inl (at_letter v f)) = W.AtLetter v
-root (inl (at_name n f)) = W.AtName n
-root (inl (bind v f)) = W.Bind v
-root (inl (some p f)) = W.Follow
-root (inr (forward l)) = W.Forward l
-root (inr (backward l)) = W.Backward l
-root (inr (seq p t)) = W.Seq
-root (inr (plus p)) = W.Plus
-root (inr stay) = W.Stay
+root (inl f) = first_word f
+root (inr p) = root_p p
 
 abbrev pub kids : Tree → List Tree
 kids (inl (is n)) = []
@@ -54,12 +42,12 @@ enter_all k [] = []
 enter_all k (t ∷ ts) = enter k t ++ enter_all (k + length (write t)) ts
 
 -- the place of the second operand, where the word is at k
-abbrev pub second_by : ℕ → List Tree → ℕ
-second_by k [] = 0
-second_by k (t ∷ []) = 0
-second_by k (t ∷ u ∷ ts) = k + 1 + length (write t)
+abbrev pub second_by : ℕ → List Tree → Option ℕ
+second_by k [] = None
+second_by k (t ∷ []) = None
+second_by k (t ∷ u ∷ ts) = Some (k + 1 + length (write t))
 
-pub no_second : (k : ℕ) (ts : List Tree) → length ts ≤ 2 → (length ts ≡ 2 → ⊥) → second_by k ts ≡ 0
+pub no_second : (k : ℕ) (ts : List Tree) → length ts ≤ 2 → (length ts ≡ 2 → ⊥) → second_by k ts ≡ None
 no_second k [] le n = refl
 no_second k (t ∷ []) le n = refl
 no_second k (t ∷ u ∷ []) le n = absurd (n refl)
@@ -138,19 +126,6 @@ long t ks e = ap length (node t).writes ∙ ap (λ l. suc (length (write_all l))
 
 pub inside : (ws : List Word) (i : ℕ) (t : Tree) (rest : List Word) → Has ws i t rest → i < length ws
 inside ws i t rest h = omega (arith, length-drop i ws, ap length h, length-append (write t) rest, long t (kids t) refl)
-
--- an operand of a tree that has some
-pub record SomeKid (ws : List Word) (i : ℕ) : Type 0 where
-  pub kid : Tree
-  pub more : List Word
-  pub at : Has ws (i + 1) kid more
-
-first_kid : (ws : List Word) (i : ℕ) (rest : List Word) (ks : List Tree) → 0 < length ks → drop (i + 1) ws ≡ write_all ks ++ rest → SomeKid ws i
-first_kid ws i rest [] lt h = absurd (omega arith)
-first_kid ws i rest (k ∷ ks) lt h = record { kid = k; more = write_all ks ++ rest; at = h ∙ append_assoc (write k) (write_all ks) rest }
-
-pub some_kid : (ws : List Word) (i : ℕ) (d : Word) (t : Tree) (rest : List Word) → Rooted ws i d t rest → 0 < length (kids t) → SomeKid ws i
-some_kid ws i d t rest s lt = first_kid ws i rest (kids t) lt s.then
 
 -- the number of operands, by the word in the table
 pub counted : (ws : List Word) (i : ℕ) (d : Word) (t : Tree) (rest : List Word) → Rooted ws i d t rest → length (kids t) ≡ paths_of (get_or ws i d) + formulas_of (get_or ws i d)

@@ -1,6 +1,6 @@
 -- A table against the words that it is made from.
 use Rattle.std.proofs.Common.{◌≡◌, ℕ, zero, suc, ◌+◌, ◌-◌, ◌<◌, ◌≤◌, List, [], ◌∷◌, ◌++◌, map, length, get_or, take, drop, sym, refl, ap, ◌∙◌, subst, inl, inr, append_assoc, append-nil, arith, length-append, length-drop}
-use Rattle.std.proofs.lemmas.List.{drop_more, drop-drop, drop_at, get_or_append_left, get_or-append_right, ext_get_or, length-take-le, map-append, get_or-take}
+use Rattle.std.proofs.lemmas.List.{drop_more, drop-drop, drop_at, get_or_append_left, get_or-append_right, ext_get_or, length-take-le, length-map, map-append, get_or-take}
 use Rattle.std.proofs.lemmas.Bool.{cases_lt, cases_eq}
 use Rattle.policy_words.specs.Tree.{Formula, Path, words, steps}
 use Rattle.policy_words.specs.Tree.Formula.{is, same, has, neg, both, either, at_letter, at_name, bind, some}
@@ -9,35 +9,11 @@ use Rattle.policy_words.specs.declared.word.Word.{Word}
 use Rattle.policy_words.specs.declared.word.Word.TheVariants as W
 use Rattle.policy_words.proofs.Rows.{heads}
 use Rattle.policy.specs.Table.{size, extent, plain, entries, path_entries, words_in, Reads, PathStands, Stands}
-use Rattle.policy.specs.Linking.{Tree, write, enter, head}
+use Rattle.policy.specs.Linking.{Tree, write, enter, head, IsEntryAt}
 use Rattle.policy.specs.declared.entry.Entry.{Entry}
 use Rattle.policy.proofs.Subtrees.{Has, rooted, kids, write_all, enter_all, node, long, past}
 
--- a table has as many entries as words
-path_length : (p : Path) (k : ℕ) → length (path_entries k p) ≡ extent p
-path_length (forward l) k = refl
-path_length (backward l) k = refl
-path_length (seq p t) k = omega (arith, length-append (path_entries (k + 1) p) (path_entries (k + 1 + extent p) t), length-append (steps p) (steps t), path_length p (k + 1), path_length t (k + 1 + extent p))
-path_length (plus p) k = ap suc (path_length p (k + 1))
-path_length stay k = refl
-
-pub entries-length : (f : Formula) (k : ℕ) → length (entries k f) ≡ size f
-entries-length (is n) k = refl
-entries-length (same v) k = refl
-entries-length (has m) k = refl
-entries-length (neg f) k = ap suc (entries-length f (k + 1))
-entries-length (both f g) k = omega (arith, length-append (entries (k + 1) f) (entries (k + 1 + size f) g), length-append (words f) (words g), entries-length f (k + 1), entries-length g (k + 1 + size f))
-entries-length (either f g) k = omega (arith, length-append (entries (k + 1) f) (entries (k + 1 + size f) g), length-append (words f) (words g), entries-length f (k + 1), entries-length g (k + 1 + size f))
-entries-length (at_letter v f) k = ap suc (entries-length f (k + 1))
-entries-length (at_name n f) k = ap suc (entries-length f (k + 1))
-entries-length (bind v f) k = ap suc (entries-length f (k + 1))
-entries-length (some p f) k = omega (arith, length-append (path_entries (k + 1) p) (entries (k + 1 + extent p) f), length-append (steps p) (words f), path_length p (k + 1), entries-length f (k + 1 + extent p))
-
-enter-length : (t : Tree) (k : ℕ) → length (enter k t) ≡ length (write t)
-enter-length (inl f) k = entries-length f k
-enter-length (inr p) k = path_length p k
-
--- and their words are those
+-- the words of a table's entries
 abbrev word_of : Entry → Word
 word_of e = e.word
 
@@ -62,6 +38,17 @@ entries-words (at_letter v f) k = ap (λ l. W.AtLetter v ∷ l) (entries-words f
 entries-words (at_name n f) k = ap (λ l. W.AtName n ∷ l) (entries-words f (k + 1))
 entries-words (bind v f) k = ap (λ l. W.Bind v ∷ l) (entries-words f (k + 1))
 entries-words (some p f) k = ap (λ l. W.Follow ∷ l) (two_words _ _ _ _ (path_words p (k + 1)) (entries-words f (k + 1 + extent p)))
+
+-- so it has as many entries as words
+pub entries-length : (f : Formula) (k : ℕ) → length (entries k f) ≡ size f
+entries-length f k = sym (length-map (entries k f) word_of) ∙ ap length (entries-words f k)
+
+path_length : (p : Path) (k : ℕ) → length (path_entries k p) ≡ extent p
+path_length p k = sym (length-map (path_entries k p) word_of) ∙ ap length (path_words p k)
+
+enter-length : (t : Tree) (k : ℕ) → length (enter k t) ≡ length (write t)
+enter-length (inl f) k = entries-length f k
+enter-length (inr p) k = path_length p k
 
 abbrev pub none : Entry
 none = plain (W.Name 0)
@@ -114,13 +101,13 @@ part_of f ws j e lt =
     record { tree = p.tree; rest = p.rest; at = p.at; is = ap (λ i. get_or (entries 0 f) i none) same ∙ p.is }
 
 -- a table whose entries are the first of the trees at their places is the formula's
-pub table_is : (f : Formula) (ws : List Word) (table : List Entry) → words f ≡ ws → length ws ≤ length table → ((k : ℕ) → k < length ws → (t : Tree) (rest : List Word) → drop k ws ≡ write t ++ rest → get_or table k none ≡ head k t) → take (length ws) table ≡ entries 0 f
+pub table_is : (f : Formula) (ws : List Word) (table : List Entry) → words f ≡ ws → length ws ≤ length table → ((k : ℕ) → k < length ws → IsEntryAt ws k (get_or table k none)) → take (length ws) table ≡ entries 0 f
 table_is f ws table e le h =
     let long : length (take (length ws) table) ≡ length ws = length-take-le (length ws) table le in
     ext_get_or none (take (length ws) table) (entries 0 f) (long ∙ sym (ap length e) ∙ sym (entries-length f 0)) (λ i lt.
     let b : i < length ws = omega (arith, long) in
     let p = part_of f ws i e b in
-    get_or-take (length ws) table i none b ∙ h i b p.tree p.rest p.at ∙ sym p.is)
+    get_or-take (length ws) table i none b ∙ (h i b).heads p.tree p.rest p.at ∙ sym p.is)
 
 -- a formula whose entries are in a table stands there
 record Opened (es : List Entry) (k : ℕ) (e : Entry) (more : List Entry) : Type 0 where

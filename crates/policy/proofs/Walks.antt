@@ -1,211 +1,260 @@
 -- A formula in a table, by its first word and the formulas under it.
-use Rattle.std.proofs.Common.{◌≡◌, ℕ, ◌+◌, ◌<◌, Bool, true, false, cond, ◌||◌, List, length, get_or, Some, None, Option, sym, refl, ap, ◌∙◌, subst, arith}
-use Rattle.std.proofs.lemmas.Bool.{false≢true}
-use Rattle.policy_words.specs.Tree.{Formula}
+use Rattle.std.proofs.Common.{◌≡◌, ℕ, ◌+◌, ◌<◌, Bool, true, false, cond, ◌||◌, List, [], ◌∷◌, length, get_or, Some, None, Option, sym, refl, ap, ◌∙◌, subst, inl, add-zero, arith}
+use Rattle.std.proofs.Math.Bool.{or-false}
+use Rattle.std.proofs.Math.Bridge.{le_prop}
+use mathlib.Core.Logic.{∥∥₁_elim}
+use Rattle.policy_words.specs.Due.{formulas_of}
+use Rattle.policy_words.specs.Tree.{Formula, root}
 use Rattle.policy_words.specs.Tree.Formula.{is, same, has, neg, both, either, at_letter, at_name, bind, some}
 use Rattle.policy_words.specs.declared.word.Letter.{Letter}
 use Rattle.policy_words.specs.declared.word.Letter.TheVariants as L
 use Rattle.policy_words.specs.declared.word.Word.{Word}
 use Rattle.policy_words.specs.declared.word.Word.TheVariants as W
-use Rattle.policy.specs.Letters.{has as holds, alike}
-use Rattle.policy.specs.Table.{size, extent, plain, joint, Stands, Reads}
+use Rattle.policy.specs.Letters.{has as holds}
+use Rattle.policy.specs.Linking.{head}
+use Rattle.policy.specs.Table.{plain, Stands, Reads}
 use Rattle.policy.specs.Free.{free, first, later, first_loose}
-use Rattle.policy.specs.Anchor.{first_stray}
-use Rattle.policy.specs.Steps.{formulas_at, free_by, settled, set_by, role, letter_role}
+use Rattle.policy.specs.Nodes.{operands, Leads, Follows, AreOperands, left, HaveFewer}
+use Rattle.policy.specs.Steps.{free_by, settled, set_by}
 use Rattle.policy.specs.declared.entry.Entry.{Entry}
-use Rattle.policy.specs.declared.walk.Formulas.{Formulas}
-use Rattle.policy.specs.declared.walk.Formulas.TheVariants.{Leaf, One, Two}
-use Rattle.policy.specs.declared.walk.Role.{Role}
-use Rattle.policy.specs.declared.walk.Role.TheVariants.{Joins, Anchors, Other}
+use Rattle.policy.specs.declared.node.Node.{Node}
+use Rattle.policy.specs.declared.node.Operands.{Operands}
+use Rattle.policy.specs.declared.node.Operands.TheVariants.{Leaf, One, Two}
+use Rattle.policy.proofs.Subtrees.{node}
 
-pub or_false : (b : Bool) → (b || false) ≡ b
-or_false true = refl
-or_false false = refl
+-- the entry of a formula's first word
+pub reads : (es : List Entry) (k : ℕ) (f : Formula) → Stands es k f → Reads es k (head k (inl f))
+reads es k (is n) r = r
+reads es k (same v) r = r
+reads es k (has m) r = r
+reads es k (neg f) r = r.0
+reads es k (both f g) r = r.0
+reads es k (either f g) r = r.0
+reads es k (at_letter v f) r = r.0
+reads es k (at_name n f) r = r.0
+reads es k (bind v f) r = r.0
+reads es k (some p f) r = r.0
+
+-- the entry at a place
+abbrev pub here : Node → Entry
+here n = get_or n.table.now n.at (plain (W.Name 0))
+
+pub word_is : (n : Node) (f : Formula) → Leads n f → (here n).word ≡ root f
+word_is n f l = ap (λ e. e.word) (reads n.table.now n.at f l).1 ∙ (node (inl f)).word n.at
+
+pub below : (es : List Entry) (k : ℕ) (f : Formula) → Stands es k f → k < length es
+below es k f s = (reads es k f s).0
+
+pub within : (n : Node) → n.at < length n.table.now
+within n = ∥∥₁_elim n.formula le_prop (λ x. below n.table.now n.at x.0 x.1)
+
+-- what a walk over the operands finds first, and whether the letter v is free in one of them
+abbrev pub first_in : (Formula → Option ℕ) → List (ℕ × Formula) → Option ℕ
+first_in g [] = None
+first_in g (p ∷ ps) = first (later (1 + p.0) (g p.1)) (first_in g ps)
+
+abbrev pub any_free : Letter → List (ℕ × Formula) → Bool
+any_free v [] = false
+any_free v (p ∷ ps) = free v p.1 || any_free v ps
+
+first_none : (o : Option ℕ) → first o None ≡ o
+first_none None = refl
+first_none (Some k) = refl
+
+pub first_found : (o p : Option ℕ) → (o ≡ None → ⊥) → first o p ≡ o
+first_found None p n = absurd (n refl)
+first_found (Some k) p n = refl
 
 pub later-later : (a b : ℕ) (o : Option ℕ) → later a (later b o) ≡ later (a + b) o
 later-later a b None = refl
 later-later a b (Some k) = ap Some (omega arith)
 
-pub later_first : (a : ℕ) (o p : Option ℕ) → later a (first o p) ≡ first (later a o) (later a p)
+later_first : (a : ℕ) (o p : Option ℕ) → later a (first o p) ≡ first (later a o) (later a p)
 later_first a None p = refl
 later_first a (Some k) p = refl
 
--- the entry at a place
-abbrev pub here : List Entry → ℕ → Entry
-here es at = get_or es at (plain (W.Name 0))
-
-pub record Leafy (at : ℕ) (f : Formula) (w : Word) : Type 0 where
-  pub letters : (v : Letter) → free v f ≡ free_by v w false
-  pub loose : (s : Letter → Bool) → settled s w ≡ true → first_loose s f ≡ None
-  pub no_joint : role w ≡ Joins → ⊥
-
-pub record Single (es : List Entry) (at : ℕ) (f : Formula) (i : ℕ) (w : Word) : Type 0 where
+-- the one operand of a word
+pub record OneOf (n : Node) (ps : List (ℕ × Formula)) (x : Node) : Type 0 where
   pub kid : Formula
-  pub stands : Stands es i kid
-  pub rises : at < i
-  pub letters : (v : Letter) → free v f ≡ free_by v w (free v kid)
-  pub loose : (s : Letter → Bool) → settled s w ≡ true → later at (first_loose s f) ≡ later i (first_loose (set_by w s) kid)
-  pub stray : role w ≡ Joins → later at (first_stray f) ≡ later i (first_stray kid)
+  pub leads : Leads x kid
+  pub table : x.table.now ≡ n.table.now
+  pub rises : n.at < x.at
+  pub found : (g : Formula → Option ℕ) → later n.at (first_in g ps) ≡ later x.at (g kid)
+  pub letters : (v : Letter) → any_free v ps ≡ free v kid
 
-pub record Double (es : List Entry) (at : ℕ) (f : Formula) (i j : ℕ) (w : Word) : Type 0 where
+found_at : (n : Node) (p : ℕ × Formula) (x : Node) (g : Formula → Option ℕ) → Follows n p x → later n.at (later (1 + p.0) (g p.1)) ≡ later x.at (g p.1)
+found_at n p x g a = let e : n.at + (1 + p.0) ≡ x.at = omega (arith, a.at) in later-later n.at (1 + p.0) (g p.1) ∙ ap (λ k. later k (g p.1)) e
+
+pub one_of : (n : Node) (ps : List (ℕ × Formula)) (x : Node) → AreOperands n ps (One x) → OneOf n ps x
+one_of n [] x a = absurd a
+one_of n (p ∷ []) x a = record { kid = p.1; leads = a.leads; table = a.table; rises = omega (arith, a.at); found = λ g. ap (later n.at) (first_none _) ∙ found_at n p x g a; letters = λ v. or-false _ }
+one_of n (p ∷ q ∷ ps) x a = absurd a
+
+-- the two operands of a word
+pub record TwoOf (n : Node) (ps : List (ℕ × Formula)) (x y : Node) : Type 0 where
   pub kid : Formula
   pub next : Formula
-  pub stands : Stands es i kid
-  pub stands_next : Stands es j next
-  pub rises : at < i
-  pub rises_next : at < j
-  pub letters : (v : Letter) → free v f ≡ free_by v w (free v kid || free v next)
-  pub loose : (s : Letter → Bool) → later at (first_loose s f) ≡ first (later i (first_loose (set_by w s) kid)) (later j (first_loose (set_by w s) next))
-  pub stray : later at (first_stray f) ≡ first (later i (first_stray kid)) (later j (first_stray next))
+  pub leads : Leads x kid
+  pub leads_next : Leads y next
+  pub table : x.table.now ≡ n.table.now
+  pub table_next : y.table.now ≡ n.table.now
+  pub rises : n.at < x.at
+  pub rises_next : n.at < y.at
+  pub found : (g : Formula → Option ℕ) → later n.at (first_in g ps) ≡ first (later x.at (g kid)) (later y.at (g next))
+  pub letters : (v : Letter) → any_free v ps ≡ (free v kid || free v next)
 
-abbrev pub View : List Entry → ℕ → Formula → Word → Formulas → Type 0
-View es at f w Leaf = Leafy at f w
-View es at f w (One i) = Single es at f i w
-View es at f w (Two i j) = Double es at f i j w
+two_only : (n : Node) (p q : ℕ × Formula) (x y : Node) → Follows n p x → Follows n q y → TwoOf n (p ∷ q ∷ []) x y
+two_only n p q x y a b = record {
+  kid = p.1;
+  next = q.1;
+  leads = a.leads;
+  leads_next = b.leads;
+  table = a.table;
+  table_next = b.table;
+  rises = omega (arith, a.at);
+  rises_next = omega (arith, b.at);
+  found = λ g. later_first n.at (later (1 + p.0) (g p.1)) _ ∙ (λ i. first (found_at n p x g a i) ((ap (later n.at) (first_none _) ∙ found_at n q y g b) i));
+  letters = λ v. ap (λ z. free v p.1 || z) (or-false _);
+}
 
-mark : Role → ℕ
-mark Joins = 0
-mark Anchors = 1
-mark Other = 2
+pub two_of : (n : Node) (ps : List (ℕ × Formula)) (x y : Node) → AreOperands n ps (Two x y) → TwoOf n ps x y
+two_of n [] x y a = absurd a
+two_of n (p ∷ []) x y a = absurd a
+two_of n (p ∷ q ∷ ps) x y a = subst (λ l. TwoOf n (p ∷ q ∷ l) x y) (sym a.0) (two_only n p q x y a.1 a.2)
 
-other : Other ≡ Joins → ⊥
-unfolding mark
-other e = omega (arith, ap mark e)
+pub none_of : (n : Node) (ps : List (ℕ × Formula)) → AreOperands n ps Leaf → ps ≡ []
+none_of n [] a = refl
+none_of n (p ∷ []) a = absurd a
+none_of n (p ∷ q ∷ ps) a = absurd a
 
-letter_other : (v : Letter) → letter_role v ≡ Joins → ⊥
-unfolding mark
-letter_other L.Requester e = omega (arith, ap mark e)
-letter_other L.Resource e = omega (arith, ap mark e)
-letter_other L.A e = omega (arith, ap mark e)
-letter_other L.B e = omega (arith, ap mark e)
+shorter : (n x : Node) → n.at < x.at → x.table.now ≡ n.table.now → left x < left n
+shorter n x lt e = omega (arith, lt, within n, within x, ap length e)
 
-both_later : (at n i j : ℕ) (o p : Option ℕ) → i ≡ at + 1 → j ≡ at + (1 + n) → later at (first (later 1 o) (later (1 + n) p)) ≡ first (later i o) (later j p)
-both_later at n i j o p e d = later_first at (later 1 o) (later (1 + n) p) ∙ (λ k. first ((later-later at 1 o ∙ ap (λ m. later m o) (sym e)) k) ((later-later at (1 + n) p ∙ ap (λ m. later m p) (sym d)) k))
+pub have_fewer : (n : Node) (o : Operands) → ((f : Formula) → Leads n f → AreOperands n (operands f) o) → HaveFewer n o
+have_fewer n Leaf h = tt
+have_fewer n (One x) h = ∥∥₁_elim n.formula le_prop (λ f. let o = one_of n (operands f.0) x (h f.0 f.1) in shorter n x o.rises o.table)
+have_fewer n (Two x y) h = (
+  ∥∥₁_elim n.formula le_prop (λ f. let o = two_of n (operands f.0) x y (h f.0 f.1) in shorter n x o.rises o.table),
+  ∥∥₁_elim n.formula le_prop (λ f. let o = two_of n (operands f.0) x y (h f.0 f.1) in shorter n y o.rises_next o.table_next),
+)
 
-one_later : (at n i : ℕ) (o : Option ℕ) → i ≡ at + n → later at (later n o) ≡ later i o
-one_later at n i o e = later-later at n o ∙ ap (λ m. later m o) (sym e)
+-- a formula by its first word and its operands: the letters that it leaves free
+pub free_is : (v : Letter) (f : Formula) → free v f ≡ free_by v (root f) (any_free v (operands f))
+free_is v (is n) = refl
+free_is v (same u) = sym (or-false _)
+free_is v (has m) = refl
+free_is v (neg f) = sym (or-false _)
+free_is v (both f g) = ap (λ z. free v f || z) (sym (or-false _))
+free_is v (either f g) = ap (λ z. free v f || z) (sym (or-false _))
+free_is v (at_letter u f) = ap (free_by v (W.AtLetter u)) (sym (or-false _))
+free_is v (at_name n f) = sym (or-false _)
+free_is v (bind u f) = ap (free_by v (W.Bind u)) (sym (or-false _))
+free_is v (some p f) = sym (or-false _)
 
-pub view : (es : List Entry) (at : ℕ) (f : Formula) → Stands es at f → View es at f (here es at).word (formulas_at at (here es at).second (here es at).word)
-view es at f s = go f s
-  where
-    to : (g : Formula) (e : Entry) → Reads es at e → View es at g e.word (formulas_at at e.second e.word) → View es at g (here es at).word (formulas_at at (here es at).second (here es at).word)
-    to g e r v = subst (λ x. View es at g x.word (formulas_at at x.second x.word)) (sym r.1) v
+-- its first loose word, where the first word names only letters that are set
+loose_under : (s : Letter → Bool) (f : Formula) → settled s (root f) ≡ true → first_loose s f ≡ first_in (first_loose (set_by (root f) s)) (operands f)
+loose_under s (is n) h = refl
+loose_under s (same u) h = ap (λ b. cond b None (Some 0)) h
+loose_under s (has m) h = refl
+loose_under s (neg f) h = sym (first_none _)
+loose_under s (both f g) h = ap (first (later 1 (first_loose s f))) (sym (first_none _))
+loose_under s (either f g) h = ap (first (later 1 (first_loose s f))) (sym (first_none _))
+loose_under s (at_letter u f) h = ap (λ b. first (cond b None (Some 0)) (later 1 (first_loose s f))) h ∙ sym (first_none _)
+loose_under s (at_name n f) h = sym (first_none _)
+loose_under s (bind u f) h = sym (first_none _)
+loose_under s (some p f) h = sym (first_none _)
 
-    go : (g : Formula) → Stands es at g → View es at g (here es at).word (formulas_at at (here es at).second (here es at).word)
-    go (is n) r = to _ _ r record { letters = λ v. refl; loose = λ s h. refl; no_joint = other }
-    go (same u) r = to _ _ r record { letters = λ v. sym (or_false _); loose = λ s h. ap (λ b. cond b None (Some 0)) h; no_joint = other }
-    go (has m) r = to _ _ r record { letters = λ v. refl; loose = λ s h. refl; no_joint = other }
-    go (neg f) r = to _ _ r.0 record { kid = f; stands = r.1; rises = omega arith; letters = λ v. refl; loose = λ s h. one_later at 1 _ _ refl; stray = λ h. one_later at 1 _ _ refl }
-    go (both f g) r = to _ _ r.0 record { kid = f; next = g; stands = r.1; stands_next = r.2; rises = omega arith; rises_next = omega arith; letters = λ v. refl; loose = λ s. both_later at (size f) (at + 1) (at + 1 + size f) (first_loose s f) (first_loose s g) refl (omega arith); stray = both_later at (size f) (at + 1) (at + 1 + size f) (first_stray f) (first_stray g) refl (omega arith) }
-    go (either f g) r = to _ _ r.0 record { kid = f; next = g; stands = r.1; stands_next = r.2; rises = omega arith; rises_next = omega arith; letters = λ v. refl; loose = λ s. both_later at (size f) (at + 1) (at + 1 + size f) (first_loose s f) (first_loose s g) refl (omega arith); stray = both_later at (size f) (at + 1) (at + 1 + size f) (first_stray f) (first_stray g) refl (omega arith) }
-    go (at_letter u f) r = to _ _ r.0 record { kid = f; stands = r.1; rises = omega arith; letters = λ v. refl; loose = λ s h. ap (λ b. later at (first (cond b None (Some 0)) (later 1 (first_loose s f)))) h ∙ one_later at 1 _ _ refl; stray = λ h. absurd (letter_other u h) }
-    go (at_name n f) r = to _ _ r.0 record { kid = f; stands = r.1; rises = omega arith; letters = λ v. refl; loose = λ s h. one_later at 1 _ _ refl; stray = λ h. absurd (other h) }
-    go (bind u f) r = to _ _ r.0 record { kid = f; stands = r.1; rises = omega arith; letters = λ v. refl; loose = λ s h. one_later at 1 _ _ refl; stray = λ h. absurd (other h) }
-    go (some p f) r = to _ _ r.0 record { kid = f; stands = r.2; rises = omega arith; letters = λ v. refl; loose = λ s h. one_later at (1 + extent p) (at + 1 + extent p) _ (omega arith); stray = λ h. absurd (other h) }
+-- by the letters t that are set in the operands
+pub loose_in : (s t : Letter → Bool) (w : Word) (f : Formula) → w ≡ root f → settled s w ≡ true → ((v : Letter) → t v ≡ set_by w s v) → first_loose s f ≡ first_in (first_loose t) (operands f)
+loose_in s t w f e h d = loose_under s f (sym (ap (settled s) e) ∙ h) ∙ ap (λ x. first_in (first_loose x) (operands f)) (ap (λ x. set_by x s) (sym e) ∙ (λ i v. sym (d v) i))
 
--- by what the operands are
-pub viewed : (es : List Entry) (at : ℕ) (f : Formula) (o : Formulas) → Stands es at f → o ≡ formulas_at at (here es at).second (here es at).word → View es at f (here es at).word o
-viewed es at f o s e = subst (View es at f (here es at).word) (sym e) (view es at f s)
+-- the operands of the first word of a formula, by how many of them are formulas and by its second operand
+abbrev OneAt : Node → ℕ → Option ℕ → Type 0
+OneAt n d None = d ≡ 0
+OneAt n d (Some k) = k ≡ n.at + 1 + d
 
--- a word that names a letter that is not set
-pub unsettled : (es : List Entry) (at : ℕ) (f : Formula) (s : Letter → Bool) → Stands es at f → settled s (here es at).word ≡ false → first_loose s f ≡ Some 0
-unsettled es at f s st h = go f st
-  where
-    no : (e : Entry) → Reads es at e → settled s e.word ≡ true → ⊥
-    no e r t = false≢true (sym h ∙ ap (λ x. settled s x.word) r.1 ∙ t)
+abbrev pub Shape : Node → List (ℕ × Formula) → ℕ → Option ℕ → Type 0
+Shape n [] c s = c ≡ 0
+Shape n (p ∷ []) c s = (c ≡ 1) × OneAt n p.0 s × Stands n.table.now (n.at + 1 + p.0) p.1
+Shape n (p ∷ q ∷ ps) c s = (ps ≡ []) × (c ≡ 2) × (s ≡ Some (n.at + 1 + q.0)) × (p.0 ≡ 0) × Stands n.table.now (n.at + 1 + p.0) p.1 × Stands n.table.now (n.at + 1 + q.0) q.1
 
-    go : (g : Formula) → Stands es at g → first_loose s g ≡ Some 0
-    go (is n) r = absurd (no _ r refl)
-    go (same u) r = ap (λ b. cond b None (Some 0)) (sym (ap (λ x. settled s x.word) r.1) ∙ h)
-    go (has m) r = absurd (no _ r refl)
-    go (neg f) r = absurd (no _ r.0 refl)
-    go (both f g) r = absurd (no _ r.0 refl)
-    go (either f g) r = absurd (no _ r.0 refl)
-    go (at_letter u f) r = ap (λ b. first (cond b None (Some 0)) (later 1 (first_loose s f))) (sym (ap (λ x. settled s x.word) r.0.1) ∙ h)
-    go (at_name n f) r = absurd (no _ r.0 refl)
-    go (bind u f) r = absurd (no _ r.0 refl)
-    go (some p f) r = absurd (no _ r.0 refl)
+at_next : (n : Node) (f : Formula) → Stands n.table.now (n.at + 1) f → Stands n.table.now (n.at + 1 + 0) f
+at_next n f s = subst (λ k. Stands n.table.now k f) (sym (add-zero (n.at + 1))) s
 
--- by the role of the first word
-abbrev pub ByRole : Formula → Role → Type 0
-ByRole f Joins = Unit {0}
-ByRole f Anchors = first_stray f ≡ None
-ByRole f Other = first_stray f ≡ Some 0
+shape_of : (n : Node) (f : Formula) → Leads n f → Shape n (operands f) (formulas_of (head n.at (inl f)).word) (head n.at (inl f)).second
+shape_of n (is m) l = refl
+shape_of n (same v) l = refl
+shape_of n (has m) l = refl
+shape_of n (neg f) l = (refl, refl, at_next n f l.1)
+shape_of n (both f g) l = (refl, refl, refl, refl, at_next n f l.1, l.2)
+shape_of n (either f g) l = (refl, refl, refl, refl, at_next n f l.1, l.2)
+shape_of n (at_letter v f) l = (refl, refl, at_next n f l.1)
+shape_of n (at_name m f) l = (refl, refl, at_next n f l.1)
+shape_of n (bind v f) l = (refl, refl, at_next n f l.1)
+shape_of n (some p f) l = (refl, refl, l.2)
 
-by_letter : (v : Letter) (f : Formula) → ByRole (at_letter v f) (letter_role v)
-by_letter L.Requester f = refl
-by_letter L.Resource f = refl
-by_letter L.A f = refl
-by_letter L.B f = refl
+pub shape : (n : Node) (f : Formula) (c : ℕ) (s : Option ℕ) → Leads n f → c ≡ formulas_of (here n).word → (here n).second ≡ s → Shape n (operands f) c s
+shape n f c s l e d =
+    let r = (reads n.table.now n.at f l).1 in
+    subst (λ x. Shape n (operands f) x s) (sym e) (subst (λ x. Shape n (operands f) (formulas_of (here n).word) x) d (subst (λ x. Shape n (operands f) (formulas_of x.word) x.second) (sym r) (shape_of n f l)))
 
-to_role : (es : List Entry) (at : ℕ) (g : Formula) (e : Entry) → Reads es at e → ByRole g (role e.word) → ByRole g (role (here es at).word)
-to_role es at g e r v = subst (λ y. ByRole g (role y.word)) (sym r.1) v
+-- one formula is the operand, and it stands at the place k
+pub record Single (n : Node) (ps : List (ℕ × Formula)) (k : ℕ) : Type 0 where
+  pub kid : ℕ × Formula
+  pub is : ps ≡ kid ∷ []
+  pub at : k ≡ n.at + 1 + kid.0
+  pub stands : Stands n.table.now k kid.1
 
-role_at : (es : List Entry) (at : ℕ) (g : Formula) → Stands es at g → ByRole g (role (here es at).word)
-role_at es at (is n) r = to_role es at (is n) (plain (W.Name n)) r refl
-role_at es at (same u) r = to_role es at (same u) (plain (W.Letter u)) r refl
-role_at es at (has m) r = to_role es at (has m) (plain (W.Mark m)) r refl
-role_at es at (neg f) r = to_role es at (neg f) (plain W.Not) r.0 tt
-role_at es at (both f g) r = to_role es at (both f g) (joint W.And (at + 1 + size f)) r.0 tt
-role_at es at (either f g) r = to_role es at (either f g) (joint W.Or (at + 1 + size f)) r.0 tt
-role_at es at (at_letter u f) r = to_role es at (at_letter u f) (plain (W.AtLetter u)) r.0 (by_letter u f)
-role_at es at (at_name n f) r = to_role es at (at_name n f) (plain (W.AtName n)) r.0 refl
-role_at es at (bind u f) r = to_role es at (bind u f) (plain (W.Bind u)) r.0 refl
-role_at es at (some p f) r = to_role es at (some p f) (joint W.Follow (at + 1 + extent p)) r.0 refl
+single_at : (n : Node) (p : ℕ × Formula) (k : ℕ) → k ≡ n.at + 1 + p.0 → Stands n.table.now (n.at + 1 + p.0) p.1 → Single n (p ∷ []) k
+single_at n p k e h = record { kid = p; is = refl; at = e; stands = subst (λ j. Stands n.table.now j p.1) (sym e) h }
 
-pub by_role : (es : List Entry) (at : ℕ) (f : Formula) (x : Role) → Stands es at f → x ≡ role (here es at).word → ByRole f x
-by_role es at f x s e = subst (ByRole f) (sym e) (role_at es at f s)
+pub single_next : (n : Node) (ps : List (ℕ × Formula)) → Shape n ps 1 None → Single n ps (n.at + 1)
+single_next n [] h = absurd (omega arith)
+single_next n (p ∷ []) h = single_at n p (n.at + 1) (omega (arith, h.1)) h.2
+single_next n (p ∷ q ∷ ps) h = absurd (omega (arith, h.1))
 
--- what stands is within the table
-pub below : (es : List Entry) (k : ℕ) (f : Formula) → Stands es k f → k < length es
-below es k (is n) r = r.0
-below es k (same v) r = r.0
-below es k (has m) r = r.0
-below es k (neg f) r = r.0.0
-below es k (both f g) r = r.0.0
-below es k (either f g) r = r.0.0
-below es k (at_letter v f) r = r.0.0
-below es k (at_name n f) r = r.0.0
-below es k (bind v f) r = r.0.0
-below es k (some p f) r = r.0.0
+pub single_second : (n : Node) (ps : List (ℕ × Formula)) (k : ℕ) → Shape n ps 1 (Some k) → Single n ps k
+single_second n [] k h = absurd (omega arith)
+single_second n (p ∷ []) k h = single_at n p k h.1 h.2
+single_second n (p ∷ q ∷ ps) k h = absurd (omega (arith, h.1))
+
+pub one_is : (n : Node) (ps : List (ℕ × Formula)) (x : Node) → Single n ps x.at → x.table.now ≡ n.table.now → AreOperands n ps (One x)
+one_is n ps x s e = rw s.is record { table = e; at = s.at; leads = subst (λ es. Stands es x.at s.kid.1) (sym e) s.stands }
+
+-- two formulas are the operands, and they stand at the next place and at the place k
+pub record Pair (n : Node) (ps : List (ℕ × Formula)) (k : ℕ) : Type 0 where
+  pub kid : ℕ × Formula
+  pub next : ℕ × Formula
+  pub is : ps ≡ kid ∷ next ∷ []
+  pub at : n.at + 1 ≡ n.at + 1 + kid.0
+  pub at_next : k ≡ n.at + 1 + next.0
+  pub stands : Stands n.table.now (n.at + 1) kid.1
+  pub stands_next : Stands n.table.now k next.1
+
+pub pair : (n : Node) (ps : List (ℕ × Formula)) (k : ℕ) → Shape n ps 2 (Some k) → Pair n ps k
+pair n [] k h = absurd (omega arith)
+pair n (p ∷ []) k h = absurd (omega (arith, h.0))
+pair n (p ∷ q ∷ ps) k h =
+    let e : n.at + 1 ≡ n.at + 1 + p.0 = omega (arith, h.3) in
+    let s = h.2 in
+    let d : k ≡ n.at + 1 + q.0 = cc in
+    record { kid = p; next = q; is = ap (λ l. p ∷ q ∷ l) h.0; at = e; at_next = d; stands = subst (λ j. Stands n.table.now j p.1) (sym e) h.4; stands_next = subst (λ j. Stands n.table.now j q.1) (sym d) h.5 }
+
+pub two_are : (n : Node) (ps : List (ℕ × Formula)) (x y : Node) → Pair n ps y.at → x.at ≡ n.at + 1 → x.table.now ≡ n.table.now → y.table.now ≡ n.table.now → AreOperands n ps (Two x y)
+two_are n ps x y s a e d =
+    rw s.is (
+      refl,
+      record { table = e; at = a ∙ s.at; leads = subst (λ es. Stands es x.at s.kid.1) (sym e) (subst (λ j. Stands n.table.now j s.kid.1) (sym a) s.stands) },
+      record { table = d; at = s.at_next; leads = subst (λ es. Stands es y.at s.next.1) (sym d) s.stands_next },
+    )
+
+pub none_are : (n : Node) (ps : List (ℕ × Formula)) (c : ℕ) (s : Option ℕ) → Shape n ps c s → (c ≡ 1 → ⊥) → ((k : ℕ) → c ≡ 2 → s ≡ Some k → ⊥) → AreOperands n ps Leaf
+none_are n [] c s h a b = tt
+none_are n (p ∷ []) c s h a b = a h.0
+none_are n (p ∷ q ∷ ps) c s h a b = b _ h.1 h.2
 
 pub none_has : (v : Letter) → holds v (record { requester = false; resource = false; a = false; b = false }) ≡ false
 none_has L.Requester = refl
 none_has L.Resource = refl
 none_has L.A = refl
 none_has L.B = refl
-
--- the words do the same with equal sets
-pub settled_same : (w : Word) (s t : Letter → Bool) → ((v : Letter) → s v ≡ t v) → settled s w ≡ settled t w
-settled_same (W.Name n) s t h = refl
-settled_same (W.Letter v) s t h = h v
-settled_same (W.Mark m) s t h = refl
-settled_same W.Not s t h = refl
-settled_same W.And s t h = refl
-settled_same W.Or s t h = refl
-settled_same (W.AtLetter v) s t h = h v
-settled_same (W.AtName n) s t h = refl
-settled_same (W.Bind v) s t h = refl
-settled_same W.Follow s t h = refl
-settled_same (W.Forward l) s t h = refl
-settled_same (W.Backward l) s t h = refl
-settled_same W.Seq s t h = refl
-settled_same W.Plus s t h = refl
-settled_same W.Stay s t h = refl
-
-pub set_same : (w : Word) (s t : Letter → Bool) → ((v : Letter) → s v ≡ t v) → (v : Letter) → set_by w s v ≡ set_by w t v
-set_same (W.Name n) s t h v = h v
-set_same (W.Letter u) s t h v = h v
-set_same (W.Mark m) s t h v = h v
-set_same W.Not s t h v = h v
-set_same W.And s t h v = h v
-set_same W.Or s t h v = h v
-set_same (W.AtLetter u) s t h v = h v
-set_same (W.AtName n) s t h v = h v
-set_same (W.Bind u) s t h v = ap (λ b. alike v u || b) (h v)
-set_same W.Follow s t h v = h v
-set_same (W.Forward l) s t h v = h v
-set_same (W.Backward l) s t h v = h v
-set_same W.Seq s t h v = h v
-set_same W.Plus s t h v = h v
-set_same W.Stay s t h v = h v

@@ -2,12 +2,13 @@
 use Rattle.std.proofs.Common.{◌≡◌, ℕ, ◌≤◌, List, [], ◌∷◌, Some, None, Option, sym, refl, ap, ◌∙◌, subst, inl, inr, arith}
 use mathlib.Core.HLevel.{⊥_prop}
 use mathlib.Core.Logic.{∥∥₁_elim, ∥∥₁_map}
+use Rattle.std.proofs.lemmas.Option.{none-some}
 use Rattle.std.proofs.lemmas.Bool.{cases_lt, cases_eq, cases_Bool, true≢false}
 use Rattle.policy_words.specs.Tree.{Formula, words, EachAllowed, each_allowed}
 use Rattle.policy_words.specs.declared.word.Word.{Word}
 use Rattle.policy_words.proofs.Rows.{heads, no_cons}
 use Rattle.policy_words.proofs.Unique.{one_tree}
-use Rattle.policy_words.proofs.Decide.{tree}
+use Rattle.policy_words.proofs.Decide.{tree, held}
 use Rattle.policy_words.proofs.Allows.{each_allows, allows_each}
 use Rattle.policy.specs.Letters.{given}
 use Rattle.policy.specs.Table.{size, entries, words_in}
@@ -18,18 +19,24 @@ use Rattle.policy.specs.declared.entry.Entry.{Entry}
 use Rattle.policy.proofs.Places.{Tells, tells_loose, tells_stray, anchored_nowhere, nowhere_anchored}
 use Rattle.policy.proofs.Tables.{entries-words}
 
+same_second : (o p : Option ℕ) → Dec (o ≡ p)
+same_second None None = yes refl
+same_second None (Some n) = no (none-some n)
+same_second (Some m) None = no (λ e. none-some m (sym e))
+same_second (Some m) (Some n) = elim (cases_eq m n) [ inl e ↦ yes (ap Some e) | inr ne ↦ no (λ e. ne cc) ]
+
 dec_entries : (xs ys : List Entry) → words_in xs ≡ words_in ys → Dec (xs ≡ ys)
 dec_entries [] [] e = yes refl
 dec_entries [] (y ∷ ys) e = no (λ p. no_cons y ys (sym p))
 dec_entries (x ∷ xs) [] e = no (no_cons x xs)
 dec_entries (x ∷ xs) (y ∷ ys) e =
     let h = heads _ _ _ _ e in
-    elim (cases_eq x.second y.second) [
-      | inl s ↦ elim (dec_entries xs ys h.1) [
+    elim (same_second x.second y.second) [
+      | yes s ↦ elim (dec_entries xs ys h.1) [
         | yes t ↦ yes (λ i. record { word = h.0 i; second = s i } ∷ t i)
         | no n ↦ no (λ p. n (heads _ _ _ _ p).1)
       ]
-      | inr n ↦ no (λ p. n (ap (λ z. z.second) (heads _ _ _ _ p).0))
+      | no n ↦ no (λ p. n (ap (λ z. z.second) (heads _ _ _ _ p).0))
     ]
 
 dec_nowhere : (o : Option ℕ) (P : ℕ → Type 0) → Tells o P → Dec (Nowhere P)
@@ -63,10 +70,6 @@ dec_of es f e = go (dec_entries es (entries 0 f) (sym e ∙ sym (entries-words f
     go (yes a) (yes b) = yes (a, b)
     go (yes a) (no n) = no (λ h. n h.1)
     go (no n) b = no (λ h. n h.0)
-
-held : {A : Type 0} → Dec A → ∥ A ∥₁ → A
-held (yes a) t = a
-held (no n) t = absurd (∥∥₁_elim t ⊥_prop n)
 
 -- words of a table that is a formula's
 pub words_of : (es : List Entry) (f : Formula) → es ≡ entries 0 f → words f ≡ words_in es

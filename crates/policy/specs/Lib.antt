@@ -1,6 +1,7 @@
 pub mod Letters
 pub mod Table
 pub mod Free
+pub mod Nodes
 pub mod Anchor
 pub mod Numbers
 pub mod Steps

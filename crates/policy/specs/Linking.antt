@@ -1,5 +1,5 @@
 -- Formulas and paths alike, as the words of a list and as the entries of a table.
-use Rattle.std.specs.Prelude.{ℕ, ◌+◌, ◌⊎◌, List}
+use Rattle.std.specs.Prelude.{◌≡◌, ℕ, ◌+◌, ◌⊎◌, List, ◌++◌, drop}
 use Rattle.std.proofs.Common.{inl, inr}
 use Rattle.policy_words.specs.Tree.{Formula, Path, words, steps}
 use Rattle.policy_words.specs.Tree.Formula.{is, same, has, neg, both, either, at_letter, at_name, bind, some}
@@ -40,3 +40,7 @@ head k (inr (backward l)) = plain (W.Backward l)
 head k (inr (seq p t)) = joint W.Seq (k + 1 + extent p)
 head k (inr (plus p)) = plain W.Plus
 head k (inr stay) = plain W.Stay
+
+-- of words that have the words of a tree at the place k, e is the tree's first entry
+pub record IsEntryAt (ws : List Word) (k : ℕ) (e : Entry) : Type 0 where
+  pub heads : (t : Tree) (rest : List Word) → drop k ws ≡ write t ++ rest → e ≡ head k t

@@ -1,32 +1,9 @@
--- What one word does in a walk over a table.
-use Rattle.std.specs.Prelude.{ℕ, ◌+◌, Bool, true, not, ◌&&◌, ◌||◌}
+-- What one word does to the letters that are free or set.
+use Rattle.std.specs.Prelude.{Bool, true, not, ◌&&◌, ◌||◌}
 use Rattle.policy_words.specs.declared.word.Letter.{Letter}
-use Rattle.policy_words.specs.declared.word.Letter.TheVariants as L
 use Rattle.policy_words.specs.declared.word.Word.{Word}
 use Rattle.policy_words.specs.declared.word.Word.TheVariants as W
 use Rattle.policy.specs.Letters.{alike, setting}
-use Rattle.policy.specs.declared.walk.Formulas.{Formulas}
-use Rattle.policy.specs.declared.walk.Formulas.TheVariants.{Leaf, One, Two}
-use Rattle.policy.specs.declared.walk.Role.{Role}
-use Rattle.policy.specs.declared.walk.Role.TheVariants.{Joins, Anchors, Other}
-
--- the places of the operands that are formulas, where the word stands at k and its second operand at s
-abbrev pub formulas_at : ℕ → ℕ → Word → Formulas
-formulas_at k s (W.Name n) = Leaf
-formulas_at k s (W.Letter v) = Leaf
-formulas_at k s (W.Mark m) = Leaf
-formulas_at k s W.Not = One (k + 1)
-formulas_at k s W.And = Two (k + 1) s
-formulas_at k s W.Or = Two (k + 1) s
-formulas_at k s (W.AtLetter v) = One (k + 1)
-formulas_at k s (W.AtName n) = One (k + 1)
-formulas_at k s (W.Bind v) = One (k + 1)
-formulas_at k s W.Follow = One s
-formulas_at k s (W.Forward l) = Leaf
-formulas_at k s (W.Backward l) = Leaf
-formulas_at k s W.Seq = Leaf
-formulas_at k s W.Plus = Leaf
-formulas_at k s W.Stay = Leaf
 
 -- whether v is free under the word, where b says whether it is free in an operand
 abbrev pub free_by : Letter → Word → Bool → Bool
@@ -81,27 +58,3 @@ set_by (W.Backward l) s = s
 set_by W.Seq s = s
 set_by W.Plus s = s
 set_by W.Stay s = s
-
--- what a word is to an anchored policy
-abbrev pub letter_role : Letter → Role
-letter_role L.Requester = Anchors
-letter_role L.Resource = Anchors
-letter_role L.A = Other
-letter_role L.B = Other
-
-abbrev pub role : Word → Role
-role (W.Name n) = Other
-role (W.Letter v) = Other
-role (W.Mark m) = Other
-role W.Not = Joins
-role W.And = Joins
-role W.Or = Joins
-role (W.AtLetter v) = letter_role v
-role (W.AtName n) = Other
-role (W.Bind v) = Other
-role W.Follow = Other
-role (W.Forward l) = Other
-role (W.Backward l) = Other
-role W.Seq = Other
-role W.Plus = Other
-role W.Stay = Other

@@ -1,5 +1,5 @@
 -- A formula in a table of words, in which a word with two operands has the number of its second.
-use Rattle.std.specs.Prelude.{◌≡◌, ℕ, ◌+◌, ◌<◌, List, [], ◌∷◌, ◌++◌, map, length, slice_index_or}
+use Rattle.std.specs.Prelude.{◌≡◌, ℕ, ◌+◌, ◌<◌, List, [], ◌∷◌, ◌++◌, map, length, Some, None, slice_index_or}
 use Rattle.policy_words.specs.Tree.{Formula, Path, words, steps}
 use Rattle.policy_words.specs.Tree.Formula.{is, same, has, neg, both, either, at_letter, at_name, bind, some}
 use Rattle.policy_words.specs.Tree.Path.{forward, backward, seq, plus, stay}
@@ -16,10 +16,10 @@ extent p = length (steps p)
 
 -- a word with the number of its second operand, and a word that has no second operand
 abbrev pub joint : Word → ℕ → Entry
-joint w n = record { word = w; second = n }
+joint w n = record { word = w; second = Some n }
 
 abbrev pub plain : Word → Entry
-plain w = joint w 0
+plain w = record { word = w; second = None }
 
 -- the table of a formula, and of a path, whose first word has the number k
 abbrev mutual

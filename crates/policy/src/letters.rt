@@ -1,4 +1,4 @@
-ghost use Rattle.std.specs.Prelude.{◌≡◌, not, ◌&&◌, ◌||◌};
+ghost use Rattle.std.specs.Prelude.{◌≡◌, not, ◌&&◌, ◌||◌, if◌then◌else◌};
 ghost use Rattle.policy_words.specs.declared.word.Letter.{Letter as Sign};
 ghost use Rattle.policy.specs.Letters.{has, alike};
 
@@ -54,31 +54,35 @@ impl Letters {
         }
     }
 
+    // The set with the letter in it, or with the letter not in it.
+    fn put(self, u: Letter, value: bool) -> Letters
+        ensures { (v : Sign) → has v result ≡ (if alike v u then value else has v self) }
+    {
+        match u {
+            Letter::Requester => Letters {
+                requester: value,
+                ..self
+            },
+            Letter::Resource => Letters {
+                resource: value,
+                ..self
+            },
+            Letter::A => Letters { a: value, ..self },
+            Letter::B => Letters { b: value, ..self },
+        }
+    }
+
     // The set with one letter more.
     pub fn with(self, u: Letter) -> Letters
         ensures { (v : Sign) → has v result ≡ (alike v u || has v self) }
     {
-        let mut set = self;
-        match u {
-            Letter::Requester => set.requester = true,
-            Letter::Resource => set.resource = true,
-            Letter::A => set.a = true,
-            Letter::B => set.b = true,
-        }
-        set
+        self.put(u, true)
     }
 
     // The set without one letter.
     pub fn without(self, u: Letter) -> Letters
         ensures { (v : Sign) → has v result ≡ (not (alike v u) && has v self) }
     {
-        let mut set = self;
-        match u {
-            Letter::Requester => set.requester = false,
-            Letter::Resource => set.resource = false,
-            Letter::A => set.a = false,
-            Letter::B => set.b = false,
-        }
-        set
+        self.put(u, false)
     }
 }

@@ -5,5 +5,6 @@ pub mod entry;
 pub mod fault;
 pub mod letters;
 mod link;
+mod node;
 pub mod policy;
 mod walk;

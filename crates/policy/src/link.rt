@@ -3,10 +3,11 @@ ghost use Rattle.std.specs.Prelude.{◌≡◌, ℕ, ◌+◌, ◌<◌, ◌≤◌,
 ghost use Rattle.policy_words.specs.declared.word.Word.{Word as Item};
 ghost use Rattle.policy_words.specs.declared.word.Word.TheVariants.{Name as NameItem};
 ghost use Rattle.policy.specs.Table.{plain};
-ghost use Rattle.policy.specs.Linking.{Tree, write, head};
+ghost use Rattle.policy.specs.Linking.{Tree, write, head, IsEntryAt};
 
 use crate::entry::Entry;
 use policy_words::word::Word;
+use std::array;
 
 // The place just after the words of the formula or path that begins at `at`.
 fn end_of(words: &[Word], at: usize) -> usize
@@ -28,16 +29,33 @@ fn end_of(words: &[Word], at: usize) -> usize
     end_of(words, end)
 }
 
-// The number of the second operand of the word at `at`, 0 where it has none.
-fn second_of(words: &[Word], at: usize) -> u8
+// The number of the second operand of the word at `at`, if it has one.
+fn second_of(words: &[Word], at: usize) -> Option<u8>
     requires few { length words.now ≤ 64 }
     requires within { at < length words.now }
     ensures { (t : Tree) (rest : List Item) → drop at words.now ≡ write t ++ rest → (head at t).second ≡ result }
 {
     if words[at].operands() == 2 {
-        end_of(words, at + 1) as u8
+        Some(end_of(words, at + 1) as u8)
     } else {
-        0
+        None
+    }
+}
+
+// The entry of the word at `at`, or one that no word has.
+fn entry_at(words: &[Word], at: usize) -> Entry
+    requires { length words.now ≤ 64 }
+    ensures { IsEntryAt words.now at result }
+{
+    match words.get(at) {
+        Some(word) => Entry {
+            word: *word,
+            second: second_of(words, at),
+        },
+        None => Entry {
+            word: Word::Stay,
+            second: None,
+        },
     }
 }
 
@@ -45,17 +63,7 @@ fn second_of(words: &[Word], at: usize) -> u8
 pub fn linked(words: &[Word]) -> [Entry; 64]
     requires { length words.now ≤ 64 }
     ensures long { length result ≡ 64 }
-    ensures heads { (k : ℕ) → k < length words.now → (t : Tree) (rest : List Item) → drop k words.now ≡ write t ++ rest → slice_index_or result k (plain (NameItem 0)) ≡ head k t }
+    ensures entries { (k : ℕ) → k < length words.now → IsEntryAt words.now k (slice_index_or result k (plain (NameItem 0))) }
 {
-    let mut table = [Entry {
-        word: Word::Stay,
-        second: 0,
-    }; 64];
-    for (k, w) in words.iter().enumerate() {
-        table[k] = Entry {
-            word: *w,
-            second: second_of(words, k),
-        };
-    }
-    table
+    array::from_fn(|k| entry_at(words, k))
 }

@@ -1,46 +1,17 @@
-// Walks over a table, from a word to its operands: each operand's number is above the word's.
-ghost use Rattle.std.specs.Prelude.{◌≡◌, ℕ, ◌+◌, ◌<◌, Bool, length, Some, None};
-ghost use Rattle.policy_words.specs.Tree.{Formula};
+// Walks over a table, from a word to its operands: each operand's place is above the word's.
+ghost use Rattle.std.specs.Prelude.{◌≡◌, ◌+◌, ◌<◌, length, true, false, MatchOption};
+ghost use Rattle.policy_words.specs.Tree.{Formula, root};
 ghost use Rattle.policy_words.specs.declared.word.Letter.{Letter as Sign};
 ghost use Rattle.policy.specs.Letters.{has};
-ghost use Rattle.policy.specs.Table.{Stands};
 ghost use Rattle.policy.specs.Free.{free, later, first_loose};
 ghost use Rattle.policy.specs.Anchor.{first_stray};
-ghost use Rattle.policy.specs.Steps.{formulas_at, free_by, settled, set_by, role};
+ghost use Rattle.policy.specs.Nodes.{Leads, AreOperands, HaveFewer, operands};
+ghost use Rattle.policy.specs.Steps.{free_by, settled, set_by};
 
 use crate::entry::Entry;
 use crate::letters::Letters;
+use crate::node::{Node, Operands};
 use policy_words::word::{Letter, Word};
-
-// The operands of a word that are formulas, by their places.
-#[derive(Clone, Copy)]
-pub enum Formulas {
-    Leaf,
-    One(usize),
-    Two(usize, usize),
-}
-
-// What a word is to an anchored policy.
-#[derive(Clone, Copy)]
-pub enum Role {
-    Joins,
-    Anchors,
-    Other,
-}
-
-// The operands of the word at `at` that are formulas.
-fn operands_at(entry: Entry, at: usize) -> Formulas
-    requires { at < 1000 }
-    ensures { result ≡ formulas_at at entry.second entry.word }
-{
-    let second = entry.second as usize;
-    match entry.word {
-        Word::Not | Word::AtLetter(_) | Word::AtName(_) | Word::Bind(_) => Formulas::One(at + 1),
-        Word::And | Word::Or => Formulas::Two(at + 1, second),
-        Word::Follow => Formulas::One(second),
-        _ => Formulas::Leaf,
-    }
-}
 
 // What a word makes of the letters left free in its operands.
 fn left_free(w: Word, inner: Letters) -> Letters
@@ -53,94 +24,95 @@ fn left_free(w: Word, inner: Letters) -> Letters
     }
 }
 
-// The letters left free under the word at `at`: the same question put to its operands.
-pub fn free_at(table: &[Entry], at: usize) -> Letters
-    requires few { length table.now < 1000 }
-    requires within { at < length table.now }
-    requires tree { (f : Formula) × Stands table.now at f }
-    ensures { (f : Formula) → Stands table.now at f → (v : Sign) → has v result ≡ free v f }
-{
-    let entry = table[at];
-    let inner = match operands_at(entry, at) {
-        Formulas::Leaf => Letters::NONE,
-        Formulas::One(f) => free_at(table, f),
-        Formulas::Two(f, g) => free_at(table, f).union(free_at(table, g)),
-    };
-    left_free(entry.word, inner)
-}
-
-// Whether the word names no letter but those that are set.
-fn is_settled(w: Word, set: Letters) -> bool
-    ensures { result ≡ settled (λ v. has v set) w }
+// The letters that are set in the operands of the word, or none where the word names a letter that
+// is not set.
+fn set_under(w: Word, set: Letters) -> Option<Letters>
+    ensures { MatchOption result (settled (λ v. has v set) w ≡ false) (λ inner. (settled (λ v. has v set) w ≡ true) × ((v : Sign) → has v inner ≡ set_by w (λ u. has u set) v)) }
 {
     match w {
-        Word::Letter(v) | Word::AtLetter(v) => set.contains(v),
-        _ => true,
+        Word::Letter(v) | Word::AtLetter(v) => set.contains(v).then_some(set),
+        Word::Bind(v) => Some(set.with(v)),
+        _ => Some(set),
     }
 }
 
-// The letters that are set in the operands of the word.
-fn set_by(w: Word, set: Letters) -> Letters
-    ensures { (v : Sign) → has v result ≡ set_by w (λ u. has u set) v }
-{
-    match w {
-        Word::Bind(v) => set.with(v),
-        _ => set,
+impl<'a> Node<'a> {
+    // The word.
+    #[tactic(auto, using(crate::proofs::Walks::within))]
+    fn word(self) -> Word
+        ensures { (f : Formula) → Leads self.entry f → result ≡ root f }
+    {
+        self.table[self.at].word
     }
-}
 
-// The first loose word from `at` on, where the letters of `set` are set.
-pub fn first_loose(table: &[Entry], at: usize, set: Letters) -> Option<usize>
-    requires few { length table.now < 1000 }
-    requires within { at < length table.now }
-    requires tree { (f : Formula) × Stands table.now at f }
-    ensures { (f : Formula) (s : Sign → Bool) → Stands table.now at f → ((v : Sign) → has v set ≡ s v) → result ≡ later at (first_loose s f) }
-{
-    let entry = table[at];
-    if !is_settled(entry.word, set) {
-        return Some(at);
+    // The operands of the word that are formulas.
+    #[tactic(auto, using(crate::proofs::Walks::within))]
+    fn operands(self) -> Operands<'a>
+        ensures operands { (f : Formula) → Leads self.entry f → AreOperands self.entry (operands f) result }
+        ensures fewer { HaveFewer self.entry result }
+    {
+        let Node { table, at } = self;
+        let entry = table[at];
+        match (entry.word.formulas(), entry.second) {
+            (1, None) => Operands::One(Node { table, at: at + 1 }),
+            (1, Some(second)) => {
+                let at = second as usize;
+                Operands::One(Node { table, at })
+            }
+            (2, Some(second)) => {
+                let first = Node { table, at: at + 1 };
+                let at = second as usize;
+                Operands::Two(first, Node { table, at })
+            }
+            _ => Operands::Leaf,
+        }
     }
-    let inner = set_by(entry.word, set);
-    match operands_at(entry, at) {
-        Formulas::Leaf => None,
-        Formulas::One(f) => first_loose(table, f, inner),
-        Formulas::Two(f, g) => match first_loose(table, f, inner) {
-            Some(k) => Some(k),
-            None => first_loose(table, g, inner),
-        },
-    }
-}
 
-// What the word is to an anchored policy.
-fn role_of(w: Word) -> Role
-    ensures { result ≡ role w }
-{
-    match w {
-        Word::Not | Word::And | Word::Or => Role::Joins,
-        Word::AtLetter(Letter::Requester) | Word::AtLetter(Letter::Resource) => Role::Anchors,
-        _ => Role::Other,
+    // The letters that the formula leaves free: the same question put to its operands.
+    pub fn free_letters(self) -> Letters
+        ensures { (f : Formula) → Leads self.entry f → (v : Sign) → has v result ≡ free v f }
+    {
+        let inner = match self.operands() {
+            Operands::Leaf => Letters::NONE,
+            Operands::One(f) => f.free_letters(),
+            Operands::Two(f, g) => f.free_letters().union(g.free_letters()),
+        };
+        left_free(self.word(), inner)
     }
-}
 
-// The first word from `at` on that keeps the formula there from being anchored.
-pub fn first_stray(table: &[Entry], at: usize) -> Option<usize>
-    requires few { length table.now < 1000 }
-    requires within { at < length table.now }
-    requires tree { (f : Formula) × Stands table.now at f }
-    ensures { (f : Formula) → Stands table.now at f → result ≡ later at (first_stray f) }
-{
-    let entry = table[at];
-    match role_of(entry.word) {
-        Role::Anchors => return None,
-        Role::Other => return Some(at),
-        Role::Joins => {}
+    // The place of the first loose word of the formula, where the letters of `set` are set.
+    pub fn first_loose(self, set: Letters) -> Option<usize>
+        ensures { (f : Formula) → Leads self.entry f → result ≡ later self.entry.at (first_loose (λ v. has v set) f) }
+    {
+        let Some(inner) = set_under(self.word(), set) else {
+            return Some(self.at);
+        };
+        match self.operands() {
+            Operands::Leaf => None,
+            Operands::One(f) => f.first_loose(inner),
+            Operands::Two(f, g) => match f.first_loose(inner) {
+                None => g.first_loose(inner),
+                found => found,
+            },
+        }
     }
-    match operands_at(entry, at) {
-        Formulas::Leaf => None,
-        Formulas::One(f) => first_stray(table, f),
-        Formulas::Two(f, g) => match first_stray(table, f) {
-            Some(k) => Some(k),
-            None => first_stray(table, g),
-        },
+
+    // The place of the first word that keeps the formula from being anchored.
+    pub fn first_stray(self) -> Option<usize>
+        ensures { (f : Formula) → Leads self.entry f → result ≡ later self.entry.at (first_stray f) }
+    {
+        match self.word() {
+            Word::AtLetter(Letter::Requester | Letter::Resource) => return None,
+            Word::Not | Word::And | Word::Or => {}
+            _ => return Some(self.at),
+        }
+        match self.operands() {
+            Operands::Leaf => None,
+            Operands::One(f) => f.first_stray(),
+            Operands::Two(f, g) => match f.first_stray() {
+                None => g.first_stray(),
+                found => found,
+            },
+        }
     }
 }

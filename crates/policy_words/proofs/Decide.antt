@@ -24,7 +24,7 @@ decide [] zero (suc j) = no (λ r. let z = empty_row r.0 r.1 r.4 in omega (arith
 decide [] (suc i) j = no (λ r. let z = empty_row r.0 r.1 r.4 in omega (arith, z, r.2))
 decide (w ∷ ws) i j = step w ws i j (λ m n. decide ws m n) (is_path w) refl
 
-held : {A : Type 0} → Dec A → ∥ A ∥₁ → A
+pub held : {A : Type 0} → Dec A → ∥ A ∥₁ → A
 held (yes a) t = a
 held (no n) t = absurd (∥∥₁_elim t ⊥_prop n)
 

@@ -1,27 +1,16 @@
 -- What one word does to what is due. Assumes nothing.
 use Rattle.std.proofs.Common.{◌≡◌, ℕ, zero, suc, ◌+◌, ◌-◌, ◌<◌, true, false, ◌⊎◌, List, [], ◌∷◌, ◌++◌, length, take, drop, sym, refl, ap, ◌∙◌, subst, append_assoc, append-nil, arith, length-append, length-drop, take-append-drop}
-use Rattle.std.proofs.lemmas.List.{length-take-le}
+use Rattle.std.proofs.lemmas.Grind.{flat_map-append}
+use Rattle.std.proofs.lemmas.List.{length-take-le, nil_from_length}
 use Rattle.std.proofs.lemmas.Bool.{true≢false, false≢true}
-use Rattle.policy_words.specs.Tree.{Formula, Path, words, steps, is_path, Whole, Begins, Unfinished}
+use Rattle.policy_words.specs.Tree.{Formula, Path, words, root, steps, is_path, Whole, Begins, Unfinished}
 use Rattle.policy_words.specs.Due.{paths_of, formulas_of, all_steps, all_words, Row, Turns, Stuck, Owes}
 use Rattle.policy_words.specs.Tree.Formula.{is, same, has, neg, both, either, at_letter, at_name, bind, some}
 use Rattle.policy_words.specs.Tree.Path.{forward, backward, seq, plus, stay}
 use Rattle.policy_words.specs.declared.word.Word.{Word}
 use Rattle.policy_words.specs.declared.word.Word.TheVariants as W
 
--- the first word of a tree, and the trees under it
-abbrev pub root : Formula → Word
-root (is n) = W.Name n
-root (same v) = W.Letter v
-root (has m) = W.Mark m
-root (neg f) = W.Not
-root (both f g) = W.And
-root (either f g) = W.Or
-root (at_letter v f) = W.AtLetter v
-root (at_name n f) = W.AtName n
-root (bind v f) = W.Bind v
-root (some p f) = W.Follow
-
+-- the trees under a formula, and the first word of a path and the paths under it
 abbrev pub paths_under : Formula → List Path
 paths_under (is n) = []
 paths_under (same v) = []
@@ -91,13 +80,9 @@ node_p (plus p) = record { writes = simp append-nil; path = refl; takes = refl }
 node_p stay = record { writes = refl; path = refl; takes = refl }
 
 -- a list of a known short length
-pub len0 : {X : Type 0} (xs : List X) → length xs ≡ 0 → xs ≡ []
-len0 [] e = refl
-len0 (x ∷ xs) e = absurd (omega arith)
-
 pub len1 : {X : Type 0} (xs : List X) → length xs ≡ 1 → (x : X) × (xs ≡ x ∷ [])
 len1 [] e = absurd (omega arith)
-len1 (x ∷ xs) e = (x, ap (λ l. x ∷ l) (len0 xs (omega arith)))
+len1 (x ∷ xs) e = (x, ap (λ l. x ∷ l) (nil_from_length xs (omega arith)))
 
 pub len2 : {X : Type 0} (xs : List X) → length xs ≡ 2 → (x : X) × (y : X) × (xs ≡ x ∷ y ∷ [])
 len2 [] e = absurd (omega arith)
@@ -117,39 +102,31 @@ make_p (W.AtLetter v) h ps e = absurd (false≢true h)
 make_p (W.AtName n) h ps e = absurd (false≢true h)
 make_p (W.Bind v) h ps e = absurd (false≢true h)
 make_p W.Follow h ps e = absurd (false≢true h)
-make_p (W.Forward l) h ps e = (forward l, to_p _ _ _ _ (len0 ps e) refl)
-make_p (W.Backward l) h ps e = (backward l, to_p _ _ _ _ (len0 ps e) refl)
+make_p (W.Forward l) h ps e = (forward l, to_p _ _ _ _ (nil_from_length ps e) refl)
+make_p (W.Backward l) h ps e = (backward l, to_p _ _ _ _ (nil_from_length ps e) refl)
 make_p W.Seq h ps e = let q = len2 ps e in (seq q.0 q.1, to_p _ _ _ _ q.2 (simp append-nil))
 make_p W.Plus h ps e = let q = len1 ps e in (plus q.0, to_p _ _ _ _ q.1 (simp append-nil))
-make_p W.Stay h ps e = (stay, to_p _ _ _ _ (len0 ps e) refl)
+make_p W.Stay h ps e = (stay, to_p _ _ _ _ (nil_from_length ps e) refl)
 
 to : (w : Word) (ps qs : List Path) (fs gs : List Formula) (t : List Word) → ps ≡ qs → fs ≡ gs → t ≡ w ∷ all_steps qs ++ all_words gs → t ≡ w ∷ all_steps ps ++ all_words fs
 to w ps qs fs gs t p q h = h ∙ sym (λ i. w ∷ all_steps (p i) ++ all_words (q i))
 
 make : (w : Word) → is_path w ≡ false → (ps : List Path) (fs : List Formula) → length ps ≡ paths_of w → length fs ≡ formulas_of w → (f : Formula) × (words f ≡ w ∷ all_steps ps ++ all_words fs)
-make (W.Name n) h ps fs e d = (is n, to _ _ _ _ _ _ (len0 ps e) (len0 fs d) refl)
-make (W.Letter v) h ps fs e d = (same v, to _ _ _ _ _ _ (len0 ps e) (len0 fs d) refl)
-make (W.Mark m) h ps fs e d = (has m, to _ _ _ _ _ _ (len0 ps e) (len0 fs d) refl)
-make W.Not h ps fs e d = let q = len1 fs d in (neg q.0, to _ _ _ _ _ _ (len0 ps e) q.1 (simp append-nil))
-make W.And h ps fs e d = let q = len2 fs d in (both q.0 q.1, to _ _ _ _ _ _ (len0 ps e) q.2 (simp append-nil))
-make W.Or h ps fs e d = let q = len2 fs d in (either q.0 q.1, to _ _ _ _ _ _ (len0 ps e) q.2 (simp append-nil))
-make (W.AtLetter v) h ps fs e d = let q = len1 fs d in (at_letter v q.0, to _ _ _ _ _ _ (len0 ps e) q.1 (simp append-nil))
-make (W.AtName n) h ps fs e d = let q = len1 fs d in (at_name n q.0, to _ _ _ _ _ _ (len0 ps e) q.1 (simp append-nil))
-make (W.Bind v) h ps fs e d = let q = len1 fs d in (bind v q.0, to _ _ _ _ _ _ (len0 ps e) q.1 (simp append-nil))
+make (W.Name n) h ps fs e d = (is n, to _ _ _ _ _ _ (nil_from_length ps e) (nil_from_length fs d) refl)
+make (W.Letter v) h ps fs e d = (same v, to _ _ _ _ _ _ (nil_from_length ps e) (nil_from_length fs d) refl)
+make (W.Mark m) h ps fs e d = (has m, to _ _ _ _ _ _ (nil_from_length ps e) (nil_from_length fs d) refl)
+make W.Not h ps fs e d = let q = len1 fs d in (neg q.0, to _ _ _ _ _ _ (nil_from_length ps e) q.1 (simp append-nil))
+make W.And h ps fs e d = let q = len2 fs d in (both q.0 q.1, to _ _ _ _ _ _ (nil_from_length ps e) q.2 (simp append-nil))
+make W.Or h ps fs e d = let q = len2 fs d in (either q.0 q.1, to _ _ _ _ _ _ (nil_from_length ps e) q.2 (simp append-nil))
+make (W.AtLetter v) h ps fs e d = let q = len1 fs d in (at_letter v q.0, to _ _ _ _ _ _ (nil_from_length ps e) q.1 (simp append-nil))
+make (W.AtName n) h ps fs e d = let q = len1 fs d in (at_name n q.0, to _ _ _ _ _ _ (nil_from_length ps e) q.1 (simp append-nil))
+make (W.Bind v) h ps fs e d = let q = len1 fs d in (bind v q.0, to _ _ _ _ _ _ (nil_from_length ps e) q.1 (simp append-nil))
 make W.Follow h ps fs e d = let p = len1 ps e in let q = len1 fs d in (some p.0 q.0, to _ _ _ _ _ _ p.1 q.1 (simp append-nil))
 make (W.Forward l) h ps fs e d = absurd (true≢false h)
 make (W.Backward l) h ps fs e d = absurd (true≢false h)
 make W.Seq h ps fs e d = absurd (true≢false h)
 make W.Plus h ps fs e d = absurd (true≢false h)
 make W.Stay h ps fs e d = absurd (true≢false h)
-
-steps-append : (ps qs : List Path) → all_steps (ps ++ qs) ≡ all_steps ps ++ all_steps qs
-steps-append [] qs = refl
-steps-append (p ∷ ps) qs = ap (λ l. steps p ++ l) (steps-append ps qs) ∙ sym (append_assoc (steps p) (all_steps ps) (all_steps qs))
-
-words_append : (fs gs : List Formula) → all_words (fs ++ gs) ≡ all_words fs ++ all_words gs
-words_append [] gs = refl
-words_append (f ∷ fs) gs = ap (λ l. words f ++ l) (words_append fs gs) ∙ sym (append_assoc (words f) (all_words fs) (all_words gs))
 
 -- a list that begins is one of its parts
 pub heads : {X : Type 0} (x y : X) (xs ys : List X) → x ∷ xs ≡ y ∷ ys → (x ≡ y) × (xs ≡ ys)
@@ -174,7 +151,7 @@ path_on w i j rest (p ∷ ps) fs lt a b e =
       fs,
       omega (arith, length-append (under_p p) ps, (node_p p).takes, ap paths_of q.0),
       b,
-      q.1 ∙ sym (append_assoc (all_steps (under_p p)) (all_steps ps) (all_words fs)) ∙ sym (ap (λ l. l ++ all_words fs) (steps-append (under_p p) ps)),
+      q.1 ∙ sym (append_assoc (all_steps (under_p p)) (all_steps ps) (all_words fs)) ∙ sym (ap (λ l. l ++ all_words fs) (flat_map-append steps (under_p p) ps)),
     )
 
 pub path_back : (w : Word) (i j : ℕ) (rest : List Word) → is_path w ≡ true → 0 < i → Row (i - 1 + paths_of w) j rest → Row i j (w ∷ rest)
@@ -182,7 +159,7 @@ path_back w i j rest h lt r =
     let ps = r.0 in
     let n = paths_of w in
     let m = make_p w h (take n ps) (length-take-le n ps (omega (arith, r.2))) in
-    let whole = sym (steps-append (take n ps) (drop n ps)) ∙ ap all_steps (take-append-drop n ps) in (
+    let whole = sym (flat_map-append steps (take n ps) (drop n ps)) ∙ ap all_steps (take-append-drop n ps) in (
       m.0 ∷ drop n ps,
       r.1,
       omega (arith, length-drop n ps, r.2),
@@ -200,7 +177,7 @@ formula_on w j rest [] (f ∷ fs) lt a b e =
       under f ++ fs,
       (node f).takes_paths ∙ sym (ap paths_of q.0),
       omega (arith, length-append (under f) fs, (node f).takes, ap formulas_of q.0),
-      q.1 ∙ append_assoc (all_steps (paths_under f)) (all_words (under f)) (all_words fs) ∙ sym (ap (λ l. all_steps (paths_under f) ++ l) (words_append (under f) fs)),
+      q.1 ∙ append_assoc (all_steps (paths_under f)) (all_words (under f)) (all_words fs) ∙ sym (ap (λ l. all_steps (paths_under f) ++ l) (flat_map-append words (under f) fs)),
     )
 
 pub formula_back : (w : Word) (j : ℕ) (rest : List Word) → is_path w ≡ false → 0 < j → Row (paths_of w) (j - 1 + formulas_of w) rest → Row 0 j (w ∷ rest)
@@ -209,7 +186,7 @@ formula_back w j rest h lt r =
     let fs = r.1 in
     let n = formulas_of w in
     let m = make w h ps (take n fs) r.2 (length-take-le n fs (omega (arith, r.3))) in
-    let whole = sym (words_append (take n fs) (drop n fs)) ∙ ap all_words (take-append-drop n fs) in (
+    let whole = sym (flat_map-append words (take n fs) (drop n fs)) ∙ ap all_words (take-append-drop n fs) in (
       [],
       m.0 ∷ drop n fs,
       refl,
@@ -248,7 +225,7 @@ formula_stuck w i j h o rest r = no_formula w i j rest r.0 r.1 h o r.2 r.3 r.4
 
 -- at the start one formula is due
 only : (ps : List Path) (fs : List Formula) → length ps ≡ 0 → length fs ≡ 1 → Whole (all_steps ps ++ all_words fs)
-only ps fs a b = let q = len1 fs b in (q.0, sym (append-nil (words q.0)) ∙ sym (λ i. all_steps (len0 ps a i) ++ all_words (q.1 i)))
+only ps fs a b = let q = len1 fs b in (q.0, sym (append-nil (words q.0)) ∙ sym (λ i. all_steps (nil_from_length ps a i) ++ all_words (q.1 i)))
 
 pub owes_start : Owes [] 0 1
 owes_start rest = (
@@ -264,8 +241,8 @@ owes_more ws w i j m n o t rest =
     )
 
 -- nothing is due: the words are a policy
-pub owes_none : (ws : List Word) (i j : ℕ) → Owes ws i j → i ≡ 0 → j ≡ 0 → Whole ws
-owes_none ws i j o a b = subst Whole (append-nil ws) ((o []).1 ([], [], sym a, sym b, refl))
+pub owes_none : (ws : List Word) (i j : ℕ) → Owes ws i j → i + j ≡ 0 → Whole ws
+owes_none ws i j o e = subst Whole (append-nil ws) ((o []).1 ([], [], omega arith, omega arith, refl))
 
 -- something is due: they are not
 pub empty_row : (ps : List Path) (fs : List Formula) → [] ≡ all_steps ps ++ all_words fs → (length ps ≡ 0) × (length fs ≡ 0)
@@ -273,11 +250,11 @@ empty_row [] [] e = (refl, refl)
 empty_row [] (f ∷ fs) e = absurd (no_cons _ _ (sym (e ∙ ap (λ l. l ++ all_words fs) (node f).writes)))
 empty_row (p ∷ ps) fs e = absurd (no_cons _ _ (sym (e ∙ append_assoc (steps p) (all_steps ps) (all_words fs) ∙ ap (λ l. l ++ (all_steps ps ++ all_words fs)) (node_p p).writes)))
 
-pub owes_some : (ws : List Word) (i j : ℕ) → Owes ws i j → 0 < i + j → Whole ws → ⊥
-owes_some ws i j o lt w =
+pub owes_some : (ws : List Word) (i j : ℕ) → Owes ws i j → (i + j ≡ 0 → ⊥) → Whole ws → ⊥
+owes_some ws i j o ne w =
     let r = (o []).0 (subst Whole (sym (append-nil ws)) w) in
     let z = empty_row r.0 r.1 r.4 in
-    omega (arith, z, r.2, r.3)
+    ne (omega (arith, z, r.2, r.3))
 
 -- what is due can always be supplied
 stays : (n : ℕ) → (ps : List Path) × (length ps ≡ n)
@@ -303,5 +280,5 @@ more_due : (ws rest : List Word) (f : Formula) → words f ≡ ws ++ rest → (W
 more_due ws [] f e n = absurd (n (f, e ∙ append-nil ws))
 more_due ws (w ∷ rest) f e n = (f, w, rest, e)
 
-pub owes_unfinished : (ws : List Word) (i j : ℕ) → Owes ws i j → 0 < i + j → Unfinished ws
-owes_unfinished ws i j o lt = let b = owes_begins ws i j o in more_due ws b.1 b.0 b.2 (owes_some ws i j o lt)
+pub owes_unfinished : (ws : List Word) (i j : ℕ) → Owes ws i j → (i + j ≡ 0 → ⊥) → Unfinished ws
+owes_unfinished ws i j o ne = let b = owes_begins ws i j o in more_due ws b.1 b.0 b.2 (owes_some ws i j o ne)

@@ -1,12 +1,12 @@
 -- A list of words is that of at most one policy. Assumes nothing.
 use Rattle.std.proofs.Common.{◌≡◌, List, [], ◌∷◌, ◌++◌, length, get_or, sym, refl, ap, ◌∙◌, append_assoc, append-nil, arith}
-use Rattle.policy_words.specs.Tree.{Formula, Path, words, steps}
+use Rattle.policy_words.specs.Tree.{Formula, Path, words, root, steps}
 use Rattle.policy_words.specs.Due.{paths_of, formulas_of, all_steps, all_words}
 use Rattle.policy_words.specs.Tree.Formula.{is, same, has, neg, both, either, at_letter, at_name, bind, some}
 use Rattle.policy_words.specs.Tree.Path.{forward, backward, seq, plus, stay}
 use Rattle.policy_words.specs.declared.word.Word.{Word}
 use Rattle.policy_words.specs.declared.word.Word.TheVariants as W
-use Rattle.policy_words.proofs.Rows.{root, paths_under, under, root_p, under_p, node, node_p, heads, no_cons}
+use Rattle.policy_words.proofs.Rows.{paths_under, under, root_p, under_p, node, node_p, heads, no_cons}
 
 -- a tree again from its first word and the trees under it
 abbrev remake_p : Word → List Path → Path

@@ -1,5 +1,6 @@
 -- What is due while words are read: first paths, then formulas.
 use Rattle.std.specs.Prelude.{◌≡◌, ℕ, List, [], ◌∷◌, ◌++◌, length}
+use Rattle.std.specs.List.{flat_map}
 use Rattle.policy_words.specs.Tree.{Formula, Path, words, steps, Whole}
 use Rattle.policy_words.specs.declared.word.Word.{Word}
 use Rattle.policy_words.specs.declared.word.Word.TheVariants as W
@@ -41,12 +42,10 @@ formulas_of W.Stay = 0
 
 -- the words of paths, and of formulas, in a row
 abbrev pub all_steps : List Path → List Word
-all_steps [] = []
-all_steps (p ∷ ps) = steps p ++ all_steps ps
+all_steps ps = flat_map steps ps
 
 abbrev pub all_words : List Formula → List Word
-all_words [] = []
-all_words (f ∷ fs) = words f ++ all_words fs
+all_words fs = flat_map words fs
 
 -- ws writes i paths and then j formulas
 abbrev pub Row : ℕ → ℕ → List Word → Type 0

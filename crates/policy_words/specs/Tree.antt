@@ -47,6 +47,19 @@ abbrev mutual
   steps (plus p) = W.Plus ∷ steps p
   steps stay = W.Stay ∷ []
 
+-- the first word of a formula
+abbrev pub root : Formula → Word
+root (is n) = W.Name n
+root (same v) = W.Letter v
+root (has m) = W.Mark m
+root (neg f) = W.Not
+root (both f g) = W.And
+root (either f g) = W.Or
+root (at_letter v f) = W.AtLetter v
+root (at_name n f) = W.AtName n
+root (bind v f) = W.Bind v
+root (some p f) = W.Follow
+
 -- whether a word begins a path
 abbrev pub is_path : Word → Bool
 is_path (W.Name n) = false

@@ -1,11 +1,11 @@
 // What is due while the words of a policy are read.
-ghost use Rattle.std.specs.Prelude.{◌≡◌, ◌+◌, ◌≤◌, IfSome, MatchOption};
+ghost use Rattle.std.specs.Prelude.{◌≡◌, ◌+◌, ◌≤◌, Decides, IfSome, MatchOption};
 ghost use Rattle.policy_words.specs.Due.{paths_of, formulas_of, Stuck, Turns};
 
 use crate::word::Word;
 
 // What is due before a policy is finished: first paths, then formulas.
-#[derive(Clone, Copy)]
+#[derive(Clone, Copy, Debug, PartialEq, Eq)]
 pub struct Due {
     pub paths: usize,
     pub formulas: usize,
@@ -17,18 +17,28 @@ fn takes(w: Word) -> Due
     ensures formulas { result.formulas ≡ formulas_of w }
     ensures few { result.paths + result.formulas ≤ 2 }
 {
-    let (paths, formulas) = match w {
-        Word::Not | Word::AtLetter(_) | Word::AtName(_) | Word::Bind(_) => (0, 1),
-        Word::And | Word::Or => (0, 2),
-        Word::Follow => (1, 1),
-        Word::Seq => (2, 0),
-        Word::Plus => (1, 0),
-        _ => (0, 0),
-    };
-    Due { paths, formulas }
+    let formulas = w.formulas();
+    let paths = w.operands() - formulas;
+    Due {
+        paths: paths.into(),
+        formulas: formulas.into(),
+    }
 }
 
 impl Due {
+    // What is due at first: one formula.
+    pub const FIRST: Due = Due {
+        paths: 0,
+        formulas: 1,
+    };
+
+    // Whether nothing is due.
+    pub fn is_empty(self) -> bool
+        ensures { Decides result (self.paths + self.formulas ≡ 0) }
+    {
+        self.paths == 0 && self.formulas == 0
+    }
+
     // What is due once the word is read, or none where it is not of the kind that is due.
     pub fn after(self, w: Word) -> Option<Due>
         requires { self.paths + self.formulas ≤ 1000 }
@@ -37,20 +47,18 @@ impl Due {
     {
         let takes = takes(w);
         if w.is_path() {
-            if self.paths == 0 {
-                return None;
-            }
+            let rest = self.paths.checked_sub(1)?;
             Some(Due {
-                paths: self.paths - 1 + takes.paths,
-                formulas: self.formulas,
+                paths: rest + takes.paths,
+                ..self
             })
+        } else if self.paths > 0 {
+            None
         } else {
-            if self.paths > 0 || self.formulas == 0 {
-                return None;
-            }
+            let rest = self.formulas.checked_sub(1)?;
             Some(Due {
                 paths: takes.paths,
-                formulas: self.formulas - 1 + takes.formulas,
+                formulas: rest + takes.formulas,
             })
         }
     }

@@ -34,6 +34,7 @@ impl ShapeFault {
 
 // Whether the words are those of a formula, or which is the first that goes wrong. Words determine
 // the formula, and no formula's words begin another's.
+#[tactic(auto, using(crate::proofs::Unique::one_tree, crate::proofs::Unique::prefix_free))]
 pub fn shape(words: &[Word]) -> Result<(), ShapeFault>
     ensures told { Shaped words.now result }
     ensures unambiguous { Unambiguous }
@@ -42,20 +43,14 @@ pub fn shape(words: &[Word]) -> Result<(), ShapeFault>
     if words.len() > 64 {
         return Err(ShapeFault::TooMany);
     }
-    let mut due = Due {
-        paths: 0,
-        formulas: 1,
-    };
+    let mut due = Due::FIRST;
     for (k, w) in words.iter().enumerate() {
-        if due.paths == 0 && due.formulas == 0 {
+        if due.is_empty() {
             return Err(ShapeFault::After(k));
         }
-        match due.after(*w) {
-            Some(d) => due = d,
-            None => return Err(ShapeFault::Kind(k)),
-        }
+        due = due.after(*w).ok_or(ShapeFault::Kind(k))?;
     }
-    if due.paths == 0 && due.formulas == 0 {
+    if due.is_empty() {
         Ok(())
     } else {
         Err(ShapeFault::Short)

@@ -36,7 +36,7 @@ impl TryFrom<&[u8]> for Letter {
 }
 
 // One word of a policy: its sign, and its operand as a number or a letter.
-#[derive(Clone, Copy, Default)]
+#[derive(Clone, Copy, Debug, Default, PartialEq, Eq)]
 pub enum Word {
     // `#c`: the name c
     Name(u8),
@@ -76,10 +76,10 @@ impl Word {
     pub fn is_path(self) -> bool
         ensures { result ≡ is_path self }
     {
-        match self {
-            Word::Forward(_) | Word::Backward(_) | Word::Seq | Word::Plus | Word::Stay => true,
-            _ => false,
-        }
+        matches!(
+            self,
+            Word::Forward(_) | Word::Backward(_) | Word::Seq | Word::Plus | Word::Stay
+        )
     }
 
     // How many operands the word takes, paths and formulas.
@@ -93,6 +93,17 @@ impl Word {
         }
     }
 
+    // How many operands of the word are formulas.
+    pub fn formulas(self) -> u8
+        ensures { result ≡ formulas_of self }
+    {
+        match self {
+            Word::Not | Word::AtLetter(_) | Word::AtName(_) | Word::Bind(_) | Word::Follow => 1,
+            Word::And | Word::Or => 2,
+            _ => 0,
+        }
+    }
+
     // Whether its name number is below 64, its label or mark number below 16, and the letter that
     // it sets a or b.
     pub fn is_allowed(self) -> bool
@@ -102,7 +113,7 @@ impl Word {
         match self {
             Word::Name(n) | Word::AtName(n) => n < 64,
             Word::Mark(n) | Word::Forward(n) | Word::Backward(n) => n < 16,
-            Word::Bind(Letter::Requester) | Word::Bind(Letter::Resource) => false,
+            Word::Bind(Letter::Requester | Letter::Resource) => false,
             _ => true,
         }
     }

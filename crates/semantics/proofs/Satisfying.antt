@@ -1,6 +1,6 @@
 -- Proofs of the laws of satisfaction.
-use Rattle.std.proofs.Common.{◌≡◌, ℕ, true, false, Ok, Err, refl, sym, ◌∙◌, inl, inr, ⊎_elim}
-use Rattle.std.proofs.lemmas.Bool.{or_left, or_right}
+use Rattle.std.proofs.Common.{◌≡◌, ℕ, true, false, not, Ok, Err, refl, sym, ◌∙◌, inl, inr, ⊎_elim}
+use Rattle.std.proofs.lemmas.Bool.{or_left, or_right, and_from, not_from_false}
 use Rattle.book.specs.Meaning.{Meaning}
 use Rattle.book.specs.declared.refusal.RangeRefusal.TheVariants.{OutOfRange}
 use Rattle.policy_words.specs.Tree.{Formula}
@@ -11,7 +11,7 @@ use Rattle.policy.specs.Letters.{alike, given}
 use Rattle.policy.specs.Free.{free}
 use Rattle.policy.specs.Anchor.{Anchored}
 use Rattle.policy.specs.Anchor.Anchored.{at_requester, at_resource, not as a_not, and as a_and, or as a_or}
-use Rattle.policy.proofs.Places.{alike_self, not_and_from, closed_is_free}
+use Rattle.policy.proofs.Places.{alike_self, closed_is_free}
 use Rattle.semantics.specs.Satisfaction.{Valuation, value, assign, Holds}
 use Rattle.semantics.specs.declared.verdict.Verdict.TheVariants.{Open, Closed as Shut}
 use Rattle.semantics.specs.Verdicts.{Asks, FreeLettersDecide, JudgedAnywhere, OneJudgement}
@@ -53,7 +53,7 @@ free_letters_decide m (at_letter u f) g h agree s (y, lt, (e, p)) =
     (y, lt, (e ∙ agree u (or_left (alike u u) (free u f) (alike_self u)), free_letters_decide m f g h (λ v d. agree v (or_right (alike v u) (free v f) d)) y p))
 free_letters_decide m (at_name n f) g h agree s (y, lt, (e, p)) = (y, lt, (e, free_letters_decide m f g h agree y p))
 free_letters_decide m (bind u f) g h agree s p =
-    free_letters_decide m f (assign u s g) (assign u s h) (λ v e. assigned g h s u v (λ d. agree v (not_and_from (alike v u) (free v f) d e))) s p
+    free_letters_decide m f (assign u s g) (assign u s h) (λ v e. assigned g h s u v (λ d. agree v (and_from (not (alike v u)) (free v f) (not_from_false (alike v u) d) e))) s p
 free_letters_decide m (some t f) g h agree s (y, lt, (j, p)) = (y, lt, (j, free_letters_decide m f g h agree y p))
 
 -- an anchored formula holds at each name where it holds at one

@@ -13,7 +13,7 @@ use crate::entry::Entry;
 use crate::fault::WordsFault;
 use crate::letters::Letters;
 use crate::link::linked;
-use crate::walk::{first_loose, first_stray, free_at};
+use crate::node::Node;
 use policy_words::shape::shape;
 use policy_words::word::{Letter, Word};
 
@@ -21,12 +21,7 @@ use policy_words::word::{Letter, Word};
 fn first_forbidden(words: &[Word]) -> Option<usize>
     ensures { MatchOption result (each_allowed words.now ≡ true) (λ k. First (Forbidden words.now) k) }
 {
-    for (k, w) in words.iter().enumerate() {
-        if !w.is_allowed() {
-            return Some(k);
-        }
-    }
-    None
+    words.iter().position(|w| !w.is_allowed())
 }
 
 impl Policy {
@@ -41,10 +36,14 @@ impl Policy {
         }
         let table = linked(words);
         let len = words.len();
-        if let Some(k) = first_loose(&table[0..len], 0, Letters::GIVEN) {
+        let formula = Node {
+            table: &table[0..len],
+            at: 0,
+        };
+        if let Some(k) = formula.first_loose(Letters::GIVEN) {
             return Err(WordsFault::Loose(k));
         }
-        if let Some(k) = first_stray(&table[0..len], 0) {
+        if let Some(k) = formula.first_stray() {
             return Err(WordsFault::Unanchored(k));
         }
         Ok(Policy { table, len })
@@ -56,7 +55,7 @@ impl Policy {
     {
         let mut table = [Entry {
             word: Word::Not,
-            second: 0,
+            second: None,
         }; 64];
         table[1].word = Word::AtLetter(Letter::Requester);
         table[2].word = Word::Letter(Letter::Requester);
@@ -79,6 +78,10 @@ impl Policy {
     pub fn free_letters(&self) -> Letters
         ensures { (f : Formula) × Means self.now f × ((v : Sign) → has v result ≡ free v f) }
     {
-        free_at(&self.table[0..self.len], 0)
+        let formula = Node {
+            table: self.table(),
+            at: 0,
+        };
+        formula.free_letters()
     }
 }

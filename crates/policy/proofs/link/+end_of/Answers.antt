@@ -1,6 +1,6 @@
 use Rattle.std.proofs.Common.{◌≡◌, [], ◌∷◌, sym, subst, arith, length-append}
 use Rattle.policy_words.specs.declared.word.Word.TheVariants as W
-use Rattle.policy_words.proofs.Rows.{len0}
+use Rattle.std.proofs.lemmas.List.{nil_from_length}
 use Rattle.policy.specs.Linking.{write}
 use Rattle.policy.proofs.Subtrees.{Has, rooted, one, two, long, inside, counted, kids, write_all, node}
 use Rattle.policy.proofs.link.+end_of.Goals as goal
@@ -14,7 +14,7 @@ returns-then-operands-eq0 t c = record {
   within = λ h. omega arith;
   ends = λ x rest h.
       let s = rooted c.args.words.now c.args.at (W.Name 0) x rest (omega arith) h in
-      let none : kids x ≡ [] = len0 (kids x) (omega (arith, counted _ _ _ _ _ s, c.operands-operands.ensures)) in
+      let none : kids x ≡ [] = nil_from_length (kids x) (omega (arith, counted _ _ _ _ _ s, c.operands-operands.ensures)) in
       omega (arith, long x [] none);
 }
 

@@ -1,22 +1,24 @@
-use Rattle.std.proofs.Common.{◌≡◌, ℕ, ◌<◌, ◌≢◌, List, ◌++◌, length, get_or, drop, sym, ◌∙◌, arith, length-set, get_or-set_other, get_or-set_same, below_more}
-use Rattle.policy_words.specs.declared.word.Word.{Word}
+use Rattle.std.proofs.Common.{◌≡◌, ℕ, zero, suc, ◌+◌, ◌<◌, ◌≤◌, List, get_or, sym, subst, inl, inr, rules, arith}
+use Rattle.std.proofs.lemmas.Bool.{cases_eq}
+use Rattle.std.specs.Array.{IsFromFnResultFrom}
+use Rattle.std.specs.Fn.{Called}
+use denote.Param.Members.{Mut}
 use Rattle.policy_words.specs.declared.word.Word.TheVariants as W
-use Rattle.policy.specs.Linking.{Tree, write, head}
-use Rattle.policy.specs.declared.entry.Entry.{Entry}
-use Rattle.policy.proofs.Subtrees.{rooted, node}
+use Rattle.policy.specs.Table.{plain}
+use Rattle.policy.specs.Linking.{IsEntryAt}
 use Rattle.policy.proofs.link.linked.Goals as goal
 
--- the entry that is made is the first of the tree there
-made : (ws : List Word) (k : ℕ) (second : ℕ) (t : Tree) (rest : List Word) → k < length ws → drop k ws ≡ write t ++ rest → (head k t).second ≡ second → ◌≡◌ {A = Entry} record { word = get_or ws k (W.Name 0); second = second } (head k t)
-made ws k second t rest lt h e =
-    let s = rooted ws k (W.Name 0) t rest lt h in
-    λ i. record { word = (s.first ∙ sym ((node t).word k)) i; second = sym e i }
+-- where a closure stays as it is and what it gives has P, each item of the array has P
+module _ {F B : Type 0} (g : Mut F (ℕ × Unit {0}) B) (P : ℕ → B → Type 0) (f : F) (ys : List B) (e : B) (gives : (i : ℕ) (y : B) (q : F) → Called g f (i, tt) y q → (q ≡ f) × P i y) where
+  each : (n i : ℕ) → IsFromFnResultFrom g f ys i n → (k : ℕ) → i ≤ k → k < i + n → P k (get_or ys k e)
+  each zero i made k lo hi = absurd (omega arith)
+  each (suc n) i made k lo hi =
+      let q = gives i made.1 made.0 made.3 in
+      elim (cases_eq k i) [
+        | inl here ↦ subst (λ j. P j (get_or ys j e)) (sym here) (subst (P i) (sym (made.2.1 e)) q.1)
+        | inr ne ↦ each n (i + 1) (subst (λ p. IsFromFnResultFrom g p ys (i + 1) n) q.0 made.4) k (omega arith) (omega arith)
+      ]
 
-pub loop-k-preserved : goal.loop-k-preserved
-loop-k-preserved c =
-    let i = c.loop-k.invariant in (
-      length-set c.loop-k.table c.loop-k.k _ ∙ i.0,
-      below_more _ _
-          (λ j h t rest e. let ne : j ≢ c.loop-k.k = omega arith in rw get_or-set_other (i.1 j h t rest e))
-          (λ t rest e. let lt : c.loop-k.k < length c.loop-k.table = omega (arith, i.0, c.requires) in rw get_or-set_same (made _ _ _ t rest c.loop-k-test.true e (c.second_of.ensures t rest e))),
-    )
+pub returns-clause-entries : goal.returns-clause-entries
+returns-clause-entries c = λ k lt.
+    each _ (IsEntryAt c.args.words.now) _ c.from_fn.result (plain (W.Name 0)) (λ i y q call. search rules) 64 0 c.from_fn.ensures.items.each k (omega arith) (omega arith)

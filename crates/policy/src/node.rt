@@ -1,0 +1,23 @@
+// Words of a table, each the first of a formula.
+ghost use Rattle.std.specs.Prelude.{◌≤◌, length};
+ghost use Rattle.policy_words.specs.Tree.{Formula};
+ghost use Rattle.policy.specs.Table.{Stands};
+
+use crate::entry::Entry;
+
+// The word at the place `at` of a table, from which on a formula stands there.
+#[derive(Clone, Copy)]
+pub struct Node<'a> {
+    pub table: &'a [Entry],
+    pub at: usize,
+    ghost few: { length table.now ≤ 64 },
+    ghost formula: { ∥ ((f : Formula) × Stands table.now at f) ∥₁ },
+}
+
+// The operands of a word that are formulas, by their first words.
+#[derive(Clone, Copy)]
+pub enum Operands<'a> {
+    Leaf,
+    One(Node<'a>),
+    Two(Node<'a>, Node<'a>),
+}
