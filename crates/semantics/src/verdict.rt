@@ -1,6 +1,8 @@
 ghost use Rattle.std.specs.Prelude.{◌≡◌};
 ghost use Rattle.semantics.specs.Verdicts.{verdict_text};
 
+use std::fmt;
+
 // The verdict on a request.
 #[derive(Clone, Copy, Debug, PartialEq, Eq)]
 pub enum Verdict {
@@ -12,12 +14,22 @@ pub enum Verdict {
 
 impl Verdict {
     // How the verdict is written.
-    pub fn text(self) -> &'static [u8]
+    pub fn text(self) -> &'static str
         ensures { result.now ≡ verdict_text self }
     {
         match self {
-            Verdict::Open => b"open",
-            Verdict::Closed => b"closed",
+            Verdict::Open => "open",
+            Verdict::Closed => "closed",
         }
+    }
+}
+
+impl fmt::Display for Verdict {
+    ghost use Rattle.std.specs.Prelude.{Some};
+
+    ghost output = { λ v. Some (verdict_text v) };
+
+    fn fmt<W: fmt::Write>(&self, f: &mut fmt::Formatter<W>) -> fmt::Result {
+        f.write_str(self.text())
     }
 }
