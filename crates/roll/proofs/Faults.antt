@@ -2,7 +2,7 @@
 use Rattle.std.proofs.Common.{◌≡◌, ℕ, zero, suc, ◌+◌, ◌<◌, ◌≤◌, min, Bool, true, false, cond, not, ◌&&◌, leb, ◌⊎◌, ◌≢◌, List as Seq, [], ◌∷◌, length, get_or, take, All, is_none, is_err, Some, None, Ok, Err, Decides, Option, sym, refl, ap, ◌∙◌, subst, inl, inr, add-zero, arith, MatchOption}
 use Rattle.std.proofs.lemmas.List.{take_all, get_or_default}
 use Rattle.std.proofs.lemmas.List.Elements.{All-nil, All-cons, All-head, All-tail}
-use Rattle.std.proofs.lemmas.Bool.{le-leb, leb-true, and_parts, and_from, false≢true, both_ways, not-true, not-false, false_from_ne_true}
+use Rattle.std.proofs.lemmas.Bool.{le-leb, leb-true, and_parts, and_from, false≢true, not-false, false_from_ne_true}
 use Rattle.std.proofs.lemmas.Bool.Decides.{Decides-and}
 use Rattle.book.specs.Limits.{Within, within, checked}
 use Rattle.book.specs.declared.counts.Counts.{Counts}
@@ -39,15 +39,11 @@ cause_cases : (o : Option WordCause) → (o ≡ None) ⊎ ((c : WordCause) × (o
 cause_cases None = inl refl
 cause_cases (Some c) = inr (c, refl)
 
-fine_more : (w : Seq ℕ) (ws : Seq (Seq ℕ)) (n : ℕ) → Fine w → ((k : ℕ) → k < n → Fine (get_or ws k [])) → (k : ℕ) → k < suc n → Fine (get_or (w ∷ ws) k [])
-fine_more w ws n h hs zero lt = h
-fine_more w ws n h hs (suc k) lt = hs k (omega arith)
-
 -- a fault at words of which the first begins at the byte `at`
 record WrongFrom (at : ℕ) (ws : Seq (Seq ℕ)) (f : WordFault WordCause) : Type 0 where
   pub place : ℕ
   pub there : place < length ws
-  pub before : (k : ℕ) → k < place → Fine (get_or ws k [])
+  pub before : All Fine (take place ws)
   pub here : Wrong (get_or ws place []) f.cause
   pub starts : f.at ≡ at + start_of place ws
 
@@ -55,7 +51,7 @@ wrong_head : (at : ℕ) (w : Seq ℕ) (ws : Seq (Seq ℕ)) (c : WordCause) (f : 
 wrong_head at w ws c f e is = record {
   place = 0;
   there = omega arith;
-  before = λ k lt. absurd (omega arith);
+  before = All-nil Fine;
   here = subst (Wrong w) (ap (λ x. x.cause) is) (caused w (Some c) e);
   starts = sym (ap (λ x. x.at) is) ∙ sym (add-zero at);
 }
@@ -64,7 +60,7 @@ wrong_tail : (at : ℕ) (w : Seq ℕ) (ws : Seq (Seq ℕ)) (f : WordFault WordCa
 wrong_tail at w ws f e r = record {
   place = suc r.place;
   there = omega (arith, r.there);
-  before = fine_more w ws r.place (caused w None e) r.before;
+  before = All-cons Fine w (take r.place ws) (caused w None e) r.before;
   here = r.here;
   starts = r.starts ∙ omega arith;
 }
@@ -82,13 +78,13 @@ first_wrong ws f e =
     let r = wrong_from ws 0 f e in
     record { place = r.place; there = r.there; before = r.before; here = r.here; starts = r.starts ∙ omega arith }
 
-wrong_first : (ws : Seq (Seq ℕ)) (place at : ℕ) (f : WordFault WordCause) → place < length ws → ((k : ℕ) → k < place → Fine (get_or ws k [])) → Wrong (get_or ws place []) f.cause → f.at ≡ at + start_of place ws → first_fault at ws ≡ Some f
+wrong_first : (ws : Seq (Seq ℕ)) (place at : ℕ) (f : WordFault WordCause) → place < length ws → All Fine (take place ws) → Wrong (get_or ws place []) f.cause → f.at ≡ at + start_of place ws → first_fault at ws ≡ Some f
 wrong_first [] place at f lt before here starts = absurd (omega arith)
 wrong_first (w ∷ ws) zero at f lt before here starts =
     fault_here at (w ∷ ws) ws w f.cause refl (wrong_cause w f.cause here) ∙ ap (λ n. Some record { cause = f.cause; at = n }) (sym (starts ∙ add-zero at))
 wrong_first (w ∷ ws) (suc place) at f lt before here starts =
-    fault_passed at (at + length w + 1) (w ∷ ws) ws w refl (fine_cause w (before 0 (omega arith))) (λ _. refl)
-    ∙ wrong_first ws place (at + length w + 1) f (omega arith) (λ k l. before (suc k) (omega arith)) here (starts ∙ omega arith)
+    fault_passed at (at + length w + 1) (w ∷ ws) ws w refl (fine_cause w (All-head Fine w (take place ws) before)) (λ _. refl)
+    ∙ wrong_first ws place (at + length w + 1) f (omega arith) (All-tail Fine w (take place ws) before) here (starts ∙ omega arith)
 
 each_fine : (ws : Seq (Seq ℕ)) (at : ℕ) → first_fault at ws ≡ None → All Fine ws
 each_fine [] at e = All-nil Fine
@@ -168,48 +164,36 @@ list_only list ws (Some (Word f)) h = faulty list ws (Some f) _ (wrong_first ws 
 list_only list ws (Some CountOrRepeat) h =
     faulty list ws None false (fine_first ws 0 h.fine) (false_from_ne_true _ (λ t. let p = (decides_together list ws).0 t in h.not_both p.0 p.1))
 
--- what was told is the function's answer
-pub list_as_told : (list : List) (ws : Seq (Seq ℕ)) (x : Option ListFault) → x ≡ list_fault list ws → ListTold list ws x × ((y : Option ListFault) → ListTold list ws y → y ≡ x)
-list_as_told list ws x e = (subst (ListTold list ws) (sym e) (list_told list ws), λ y h. list_only list ws y h ∙ sym e)
+-- what is told is the function's answer, and nothing else is
+pub list_as_told : (list : List) (ws : Seq (Seq ℕ)) (x : Option ListFault) → x ≡ list_fault list ws → ListTold list ws x
+list_as_told list ws x e = subst (ListTold list ws) (sym e) (list_told list ws)
 
--- what the check of a list finds
+pub list_told_only : (list : List) (ws : Seq (Seq ℕ)) (x y : Option ListFault) → x ≡ list_fault list ws → ListTold list ws y → y ≡ x
+list_told_only list ws x y e h = list_only list ws y h ∙ sym e
 
-pub word_fault : (list : List) (ws : Seq (Seq ℕ)) (f : WordFault WordCause) → first_fault 0 ws ≡ Some f → Some (Word f) ≡ list_fault list ws
-word_fault list ws f e = faulty list ws (Some f) _ e refl
+-- what the check of a list finds where each word is fine by itself
 
 err_test : (b : Bool) → is_err {T = Unit {0}} (cond b (Ok tt) (Err OutsideLimits)) ≡ not b
 err_test true = refl
 err_test false = refl
 
-pub within_if : (c : Counts) → is_err (checked c) ≡ false → Within c
+within_if : (c : Counts) → is_err (checked c) ≡ false → Within c
 within_if c e = (decides_within c).0 (not-false _ (sym (err_test (within c)) ∙ e))
 
-not_within_if : (c : Counts) → is_err (checked c) ≡ true → Within c → ⊥
-not_within_if c e h = both_ways (within c) (not-true _ (sym (err_test (within c)) ∙ e)) ((decides_within c).1 h)
-
 module _ (list : List) (ws : Seq (Seq ℕ)) (count : ℕ) (is : count ≡ min 65 (length ws)) (fine : first_fault 0 ws ≡ None) where
-  pub outside : is_err (checked (alone list count)) ≡ true → Some CountOrRepeat ≡ list_fault list ws
-  outside e =
-      list_only list ws (Some CountOrRepeat) record {
-        fine = each_fine ws 0 fine;
-        not_both = λ w _. not_within_if (alone list count) e (subst (λ n. Within (alone list n)) (omega (arith, few list (length ws) w)) w);
-      }
-
   pub repeated : (Distinct (take 64 ws) → ⊥) → Some CountOrRepeat ≡ list_fault list ws
   repeated h =
       list_only list ws (Some CountOrRepeat) record {
         fine = each_fine ws 0 fine;
-        not_both = λ w a. h (subst Distinct (sym (take_all 64 ws (few list (length ws) w))) a);
+        not_both = λ w apart. h (subst Distinct (sym (take_all 64 ws (few list (length ws) w))) apart);
       }
 
-  module _ (e : is_err (checked (alone list count)) ≡ false) where
-    pub exact : count ≡ length ws
-    exact = omega (arith, few list count (within_if (alone list count) e))
-
-    pub accepted : Distinct (take 64 ws) → None ≡ list_fault list ws
-    accepted d =
-        list_only list ws None record {
-          fine = each_fine ws 0 fine;
-          within = subst (λ n. Within (alone list n)) exact (within_if (alone list count) e);
-          apart = subst Distinct (take_all 64 ws (omega (arith, exact, few list count (within_if (alone list count) e)))) d;
-        }
+  pub accepted : is_err (checked (alone list count)) ≡ false → Distinct (take 64 ws) → None ≡ list_fault list ws
+  accepted e apart =
+      let within = within_if (alone list count) e in
+      let exact : count ≡ length ws = omega (arith, few list count within) in
+      list_only list ws None record {
+        fine = each_fine ws 0 fine;
+        within = subst (λ n. Within (alone list n)) exact within;
+        apart = subst Distinct (take_all 64 ws (omega (arith, exact, few list count within))) apart;
+      }

@@ -1,19 +1,17 @@
 -- Faults of rolls, and what a roll tells of its words.
-use Rattle.std.proofs.Common.{◌≡◌, ℕ, ◌<◌, ◌≤◌, min, List as Seq, length, IsErrAnd, Some, None, Err, Ok, Option, Result, sym, refl, ap, ◌∙◌, subst, inl, inr, arith, MatchOption, option_map}
+use Rattle.std.proofs.Common.{◌≡◌, ℕ, ◌<◌, ◌≤◌, List as Seq, length, Some, None, Option, sym, refl, ap, ◌∙◌, subst, inl, inr, MatchOption, option_map}
 use Rattle.std.specs.List.{slice_get}
-use Rattle.std.specs.Result.{result_err}
 use Rattle.std.proofs.lemmas.Bool.{cases_lt}
-use Rattle.book.specs.Limits.{Within}
 use Rattle.text.specs.Text.{words}
 use Rattle.roll.specs.Lists.{numbered, place_of, Distinct, Good, ListTold, list_fault}
-use Rattle.roll.specs.Rolls.{Sound, text_of, words_of, counts_of, number_of, word_of, RollTold, or_later, roll_fault}
+use Rattle.roll.specs.Rolls.{Sound, text_of, words_of, number_of, word_of, RollTold, or_later, roll_fault}
 use Rattle.roll.specs.declared.list.List.{List}
 use Rattle.roll.specs.declared.list.List.TheVariants.{Names, Labels, Marks}
 use Rattle.roll.specs.declared.list.ListFault.{ListFault}
 use Rattle.roll.specs.declared.roll.Roll.{Roll}
 use Rattle.roll.specs.declared.roll.RollFault.{RollFault}
 use Rattle.roll.proofs.Walks.{none_some, place_none, place_word, place_of_lem, word_here, word_there}
-use Rattle.roll.proofs.Faults.{list_told, list_only, few, numbered_all}
+use Rattle.roll.proofs.Faults.{list_told, list_only, numbered_all}
 
 told_in_turn : (n l m : Seq ℕ) (a b c : Option ListFault) → ListTold Names (words n) a → ListTold Labels (words l) b → ListTold Marks (words m) c → RollTold n l m (or_later Names a (or_later Labels b (or_later Marks c None)))
 told_in_turn n l m (Some f) b c x y z = x
@@ -37,29 +35,12 @@ roll_only : (n l m : Seq ℕ) (x : Option RollFault) → RollTold n l m x → x 
 roll_only n l m None h = in_turn n l m None None None (list_only Names (words n) None h.0) (list_only Labels (words l) None h.1) (list_only Marks (words m) None h.2)
 roll_only n l m (Some f) h = only_at n l m f.list f.fault h
 
--- the first faulty list
-module _ (n l m : Seq ℕ) (f : RollFault) where
-  at_list : (list : List) → f.list ≡ list → Some f ≡ Some record { list = list; fault = f.fault }
-  at_list list e = ap (λ x. Some record { list = x; fault = f.fault }) e
+-- what is told is the function's answer, and nothing else is
+pub roll_as_told : (n l m : Seq ℕ) (x : Option RollFault) → x ≡ roll_fault n l m → RollTold n l m x
+roll_as_told n l m x e = subst (RollTold n l m) (sym e) (roll_told n l m)
 
-  pub fault_in_names : f.list ≡ Names → list_fault Names (words n) ≡ Some f.fault → Some f ≡ roll_fault n l m
-  fault_in_names e x = at_list Names e ∙ in_turn n l m (Some f.fault) _ _ (sym x) refl refl
-
-  pub fault_in_labels : list_fault Names (words n) ≡ None → f.list ≡ Labels → list_fault Labels (words l) ≡ Some f.fault → Some f ≡ roll_fault n l m
-  fault_in_labels x e y = at_list Labels e ∙ in_turn n l m None (Some f.fault) _ (sym x) (sym y) refl
-
-  pub fault_in_marks : list_fault Names (words n) ≡ None → list_fault Labels (words l) ≡ None → f.list ≡ Marks → list_fault Marks (words m) ≡ Some f.fault → Some f ≡ roll_fault n l m
-  fault_in_marks x y e z = at_list Marks e ∙ in_turn n l m None None (Some f.fault) (sym x) (sym y) (sym z)
-
-pub no_fault : (n l m : Seq ℕ) → list_fault Names (words n) ≡ None → list_fault Labels (words l) ≡ None → list_fault Marks (words m) ≡ None → None ≡ roll_fault n l m
-no_fault n l m x y z = in_turn n l m None None None (sym x) (sym y) (sym z)
-
-pub roll_as_told : (n l m : Seq ℕ) (x : Option RollFault) → x ≡ roll_fault n l m → RollTold n l m x × ((y : Option RollFault) → RollTold n l m y → y ≡ x)
-roll_as_told n l m x e = (subst (RollTold n l m) (sym e) (roll_told n l m), λ y h. roll_only n l m y h ∙ sym e)
-
-pub told_err : (n l m : Seq ℕ) (r : Result Roll RollFault) (f : RollFault) → IsErrAnd r (λ y. y ≡ f) → Some f ≡ roll_fault n l m → result_err r ≡ roll_fault n l m
-told_err n l m (Err y) f h e = ap Some h ∙ e
-told_err n l m (Ok x) f h e = absurd h
+pub roll_told_only : (n l m : Seq ℕ) (x y : Option RollFault) → x ≡ roll_fault n l m → RollTold n l m y → y ≡ x
+roll_told_only n l m x y e h = roll_only n l m y h ∙ sym e
 
 -- each text of a roll makes its list
 good_by : (list : List) (ws : Seq (Seq ℕ)) → list_fault list ws ≡ None → Good list ws
@@ -69,21 +50,6 @@ pub sound : (r : Roll) → Sound r
 sound r Names = good_by Names _ r.names_fine
 sound r Labels = good_by Labels _ r.labels_fine
 sound r Marks = good_by Marks _ r.marks_fine
-
--- the counts of a roll
-pub counted : (r : Roll) (list : List) → min 65 (length (words_of r list)) ≡ length (words_of r list)
-counted r list = omega (arith, few list (length (words_of r list)) (sound r list).within)
-
-pub counts_within : (r : Roll) → Within (counts_of r)
-counts_within r = record {
-  some_name = subst (λ n. 1 ≤ n) (sym (counted r Names)) (sound r Names).within.some_name;
-  few_names = subst (λ n. n ≤ 64) (sym (counted r Names)) (sound r Names).within.few_names;
-  few_labels = subst (λ n. n ≤ 16) (sym (counted r Labels)) (sound r Labels).within.few_labels;
-  few_marks = subst (λ n. n ≤ 16) (sym (counted r Marks)) (sound r Marks).within.few_marks;
-}
-
-pub counts_is : (r : Roll) (a b c : ℕ) → a ≡ min 65 (length (words_of r Names)) → b ≡ min 65 (length (words_of r Labels)) → c ≡ min 65 (length (words_of r Marks)) → record { names = a; labels = b; marks = c } ≡ counts_of r
-counts_is r a b c x y z = cc
 
 -- numbers and words undo each other
 pub number_back : (r : Roll) (list : List) (w : Seq ℕ) (o : Option ℕ) → o ≡ number_of r list w → MatchOption o ((n : ℕ) → word_of r list n ≡ Some w → ⊥) (λ n. word_of r list n ≡ Some w)

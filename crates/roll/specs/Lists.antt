@@ -40,7 +40,7 @@ pub record Good (list : List) (ws : Seq (Seq ℕ)) : Type 0 where
 pub record FirstWrong (ws : Seq (Seq ℕ)) (f : WordFault WordCause) : Type 0 where
   pub place : ℕ
   pub there : place < length ws
-  pub before : (k : ℕ) → k < place → Fine (slice_index_or ws k [])
+  pub before : All Fine (take place ws)
   pub here : Wrong (slice_index_or ws place []) f.cause
   pub starts : f.at ≡ start_of place ws
 

@@ -5,6 +5,7 @@ ghost use Rattle.text.specs.Text.{words};
 ghost use Rattle.book.specs.Limits.{within};
 ghost use Rattle.roll.specs.Numbers.{list_number, fault_number, fault_place};
 ghost use Rattle.roll.specs.Lists.{alone, first_fault, list_fault, ListTold};
+ghost use Rattle.roll.specs.declared.list.ListFault.TheVariants.{Word};
 
 use crate::lookup::{count_in, is_distinct};
 use book::counts::Counts;
@@ -50,16 +51,24 @@ impl ListFault {
     }
 }
 
-// The first faulty word of a text, if there is one.
-fn first_fault(text: &[u8]) -> Option<WordFault<WordCause>>
-    ensures { result ≡ first_fault 0 (words text.now) }
+impl From<WordFault<WordCause>> for ListFault {
+    ghost from_gives = { λ w r. r ≡ Word w };
+
+    fn from(word: WordFault<WordCause>) -> ListFault {
+        ListFault::Word(word)
+    }
+}
+
+// Whether each word of the text is fine by itself: the first that is not decides.
+fn check_words(text: &[u8]) -> Result<(), WordFault<WordCause>>
+    ensures { result_err result ≡ first_fault 0 (words text.now) }
 {
     for word in Pieces::words(text) {
         if let Some(cause) = cause_of(word.bytes) {
-            return Some(WordFault { cause, at: word.at });
+            return Err(WordFault { cause, at: word.at });
         }
     }
-    None
+    Ok(())
 }
 
 impl List {
@@ -105,11 +114,12 @@ impl List {
         ensures told { ListTold self (words text.now) (result_err result) }
         ensures only { (x : Option ListFault) → ListTold self (words text.now) x → x ≡ result_err result }
     {
-        if let Some(fault) = first_fault(text) {
-            return Err(ListFault::Word(fault));
-        }
+        check_words(text)?;
         let count = count_in(text);
-        if self.alone(count).check().is_err() || !is_distinct(text) {
+        self.alone(count)
+            .check()
+            .map_err(|_| ListFault::CountOrRepeat)?;
+        if !is_distinct(text) {
             return Err(ListFault::CountOrRepeat);
         }
         Ok(count)

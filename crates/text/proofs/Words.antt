@@ -1,6 +1,6 @@
 -- What a word may hold: the tests and what they mean.
-use Rattle.std.proofs.Common.{◌≡◌, ℕ, ◌≤◌, Bool, true, false, cond, ◌&&◌, leb, List, length, Some, None, Decides, refl, ◌∙◌, MatchOption}
-use Rattle.std.proofs.lemmas.Bool.{le-leb, leb-true, cond-true, cond-false, cond_both}
+use Rattle.std.proofs.Common.{◌≡◌, ℕ, ◌≤◌, cond, ◌&&◌, leb, List, length, Some, None, Decides, refl, ◌∙◌, MatchOption}
+use Rattle.std.proofs.lemmas.Bool.{le-leb, leb-true, cond-true, cond-false, cond_both, false_from_ne_true}
 use Rattle.std.proofs.lemmas.Bool.Decides.{Decides-and, Decides-or, Decides-eqb, not_from_Decides}
 use Rattle.std.proofs.ByRecursion.{Decides-by_and}
 use Rattle.text.specs.declared.word.WordCause.{WordCause}
@@ -27,15 +27,11 @@ cause_means w =
     (λ t. cond_both (leb 1 (length w) && leb (length w) 16) None (Some BadLength) (λ o. MatchOption o (Fine w) (λ c. Wrong w c)) (λ s. ((decides_plain w).0 t, (decides_sized w).0 s)) (λ s. ((decides_plain w).0 t, not_from_Decides _ (decides_sized w) s)))
     (λ f. not_from_Decides _ (decides_plain w) f)
 
-refuted : (b : Bool) → (b ≡ true → ⊥) → b ≡ false
-refuted true h = absurd (h refl)
-refuted false h = refl
-
 -- and what is so said of a word is its cause
 pub fine_cause : (w : List ℕ) → Fine w → cause_of w ≡ None
 fine_cause w h = cond-true (plain w) _ _ ((decides_plain w).1 h.0) ∙ cond-true (leb 1 (length w) && leb (length w) 16) _ _ ((decides_sized w).1 h.1)
 
 pub wrong_cause : (w : List ℕ) (c : WordCause) → Wrong w c → cause_of w ≡ Some c
-wrong_cause w BadByte h = cond-false (plain w) _ _ (refuted _ (λ t. h ((decides_plain w).0 t)))
+wrong_cause w BadByte h = cond-false (plain w) _ _ (false_from_ne_true _ (λ t. h ((decides_plain w).0 t)))
 wrong_cause w BadLength h =
-    cond-true (plain w) _ _ ((decides_plain w).1 h.0) ∙ cond-false (leb 1 (length w) && leb (length w) 16) _ _ (refuted _ (λ t. h.1 ((decides_sized w).0 t)))
+    cond-true (plain w) _ _ ((decides_plain w).1 h.0) ∙ cond-false (leb 1 (length w) && leb (length w) 16) _ _ (false_from_ne_true _ (λ t. h.1 ((decides_sized w).0 t)))

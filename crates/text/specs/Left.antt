@@ -1,7 +1,7 @@
 -- The pieces that are still to be taken.
-use Rattle.std.specs.Prelude.{◌≡◌, ℕ, ◌+◌, List, [], ◌∷◌, length, take, drop, ◌≢◌, Some, None, Option, unwrap_or, MatchOption}
+use Rattle.std.specs.Prelude.{◌≡◌, ℕ, ◌+◌, List, [], ◌∷◌, length, take, drop, ◌≢◌, Some, None, Option, unwrap_or, IfSome, MatchOption}
 use Rattle.std.specs.Iterator.Runs.{EveryRun, ItemsMapTo}
-use Rattle.text.specs.Text.{pieces}
+use Rattle.text.specs.Text.{pieces, start_of}
 use Rattle.text.specs.declared.pieces.Piece.{Piece}
 use Rattle.text.specs.declared.pieces.Pieces.{Pieces}
 
@@ -41,3 +41,7 @@ Gives p r q = MatchOption r ((left p ≡ []) × (q ≡ p)) (λ w. Took p w q)
 -- calls of `next` give the pieces that are left, one after another
 abbrev pub GivesEach : Type 0
 GivesEach = EveryRun Gives (λ run. ItemsMapTo run (λ w. w.bytes.now) (left run.from))
+
+-- and each with the byte offset at which it begins
+abbrev pub GivesPlaces : Type 0
+GivesPlaces = EveryRun Gives (λ run. (k : ℕ) → IfSome (run.at k) (λ w. w.at ≡ start run.from + start_of k (left run.from)))

@@ -37,6 +37,7 @@ fn check_list(list: List, text: &[u8]) -> Result<u8, RollFault>
 
 impl<'a> Roll<'a> {
     // Reads three texts, each in turn: the first faulty one decides.
+    #[tactic(auto, using(crate::proofs::Rolls::roll_as_told))]
     pub fn read(names: &'a [u8], labels: &'a [u8], marks: &'a [u8]) -> Result<Roll<'a>, RollFault>
         ensures value { result_err result ≡ roll_fault names.now labels.now marks.now }
         ensures holds { IfOk result (λ roll. (roll.names ≡ names.entry) × (roll.labels ≡ labels.entry) × (roll.marks ≡ marks.entry)) }

@@ -1,7 +1,7 @@
 ghost use Rattle.std.specs.Prelude.{◌≡◌, ℕ, ◌<◌, List, [], length, Decides};
 ghost use Rattle.std.specs.Iterator.{at_most};
 ghost use Rattle.text.specs.Text.{pieces, words, Cut, WordCut, StandsAt};
-ghost use Rattle.text.specs.Left.{left, start, whole, Gives, GivesEach};
+ghost use Rattle.text.specs.Left.{left, start, whole, Gives, GivesEach, GivesPlaces};
 
 use super::{Piece, Pieces};
 
@@ -18,6 +18,7 @@ impl<'a> Pieces<'a> {
         ensures only { (ws : List (List ℕ)) → WordCut text.now ws → ws ≡ words text.now }
         ensures stand { (k : ℕ) → k < length (words text.now) → StandsAt k (words text.now) text.now }
         ensures each { GivesEach }
+        ensures places { GivesPlaces }
     {
         let at = if text.is_empty() { None } else { Some(0) };
         Pieces {
@@ -38,6 +39,7 @@ impl<'a> Pieces<'a> {
         ensures only { (ws : List (List ℕ)) → Cut part text.now ws → ws ≡ pieces part text.now }
         ensures stand { (k : ℕ) → k < length (pieces part text.now) → StandsAt k (pieces part text.now) text.now }
         ensures each { GivesEach }
+        ensures places { GivesPlaces }
     {
         Pieces {
             text,

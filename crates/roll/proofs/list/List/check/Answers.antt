@@ -1,40 +1,50 @@
-use Rattle.std.proofs.Common.{◌≡◌, is_err, Some, None, sym, ap, ◌∙◌}
+use Rattle.std.proofs.Common.{◌≡◌, is_err, false, None, rules}
+use Rattle.std.specs.Result.{result_err}
 use Rattle.std.proofs.lemmas.Bool.Decides.{not_from_Decides}
 use Rattle.book.specs.Limits.{checked}
 use Rattle.text.specs.Text.{words}
-use Rattle.roll.specs.declared.list.ListFault.TheVariants.{Word, CountOrRepeat}
-use Rattle.roll.proofs.Faults.{list_as_told, word_fault, outside, repeated, exact, accepted}
+use Rattle.roll.specs.Lists.{alone, first_fault, list_fault}
+use Rattle.roll.proofs.Faults.{list_as_told, list_told_only, repeated, accepted}
 use Rattle.roll.proofs.list.List.check.Goals as goal
-use Rattle.roll.proofs.list.List.check.Goals.{then-is_err-via-then-is_err, then-is_err-via-else-is_err+then-not-is_distinct}
+use Rattle.roll.proofs.list.List.check.Goals.{After-is_distinct}
 
-pub returns-in-Some : goal.returns-in-Some
-returns-in-Some c =
+pub returns-in_err-check_words-clause-told : goal.returns-in_err-check_words-clause-told
+returns-in_err-check_words-clause-told c =
     let ws = words c.args.text.now in
-    let v = word_fault c.args.self ws c.in-Some.fault (sym c.first_fault.ensures ∙ c.in-Some.is) in
-    let t = list_as_told c.args.self ws (Some (Word c.in-Some.fault)) v in
-    record { value = v; count = tt; told = t.0; only = t.1 }
+    let e : result_err c.from_residual.result ≡ list_fault c.args.self ws = search rules in
+    list_as_told c.args.self ws _ e
 
-pub returns-then-is_err : goal.returns-then-is_err
-returns-then-is_err c =
+pub returns-in_err-check_words-clause-only : goal.returns-in_err-check_words-clause-only
+returns-in_err-check_words-clause-only c =
+    let ws = words c.args.text.now in
+    let e : result_err c.from_residual.result ≡ list_fault c.args.self ws = search rules in
+    λ x h. list_told_only c.args.self ws _ x e h
+
+pub returns-in_err-map_err-clause-told : goal.returns-in_err-map_err-clause-told
+returns-in_err-map_err-clause-told c =
+    let ws = words c.args.text.now in
+    let e : result_err c.from_residual-in_err-map_err.result ≡ list_fault c.args.self ws = search rules in
+    list_as_told c.args.self ws _ e
+
+pub returns-in_err-map_err-clause-only : goal.returns-in_err-map_err-clause-only
+returns-in_err-map_err-clause-only c =
+    let ws = words c.args.text.now in
+    let e : result_err c.from_residual-in_err-map_err.result ≡ list_fault c.args.self ws = search rules in
+    λ x h. list_told_only c.args.self ws _ x e h
+
+pub returns-then-not-is_distinct : goal.returns-then-not-is_distinct
+returns-then-not-is_distinct c =
     let ws = words c.args.text.now in
     let list = c.args.self in
-    let n = c.count_in-count.result in
-    let fine = sym c.first_fault.ensures ∙ c.in_default.is in
-    let test = sym (c.is_err.ensures.value ∙ ap is_err (c.check.ensures ∙ ap checked c.alone.ensures)) in
-    let v : Some CountOrRepeat ≡ _ = elim c.then-is_err.branch [
-      | then-is_err-via-then-is_err w ↦ outside list ws n c.count_in-count.ensures fine (test ∙ w.if-is_err.true)
-      | then-is_err-via-else-is_err+then-not-is_distinct w ↦ repeated list ws n c.count_in-count.ensures fine (not_from_Decides _ w.is_distinct.ensures w.if-not-is_distinct.true)
-    ] in
-    let t = list_as_told list ws (Some CountOrRepeat) v in
-    record { value = v; count = tt; told = t.0; only = t.1 }
+    let fine : first_fault 0 ws ≡ None = search rules in
+    let v = repeated list ws _ c.count_in-count.ensures fine (not_from_Decides _ c.is_distinct.ensures c.if-not-is_distinct.true) in
+    record { value = v; count = tt; told = list_as_told list ws _ v; only = λ x h. list_told_only list ws _ x v h }
 
 pub returns : goal.returns
 returns c =
     let ws = words c.args.text.now in
     let list = c.args.self in
-    let n = c.count_in-count.result in
-    let fine = sym c.first_fault.ensures ∙ c.in_default.is in
-    let test = sym (c.is_err.ensures.value ∙ ap is_err (c.check.ensures ∙ ap checked c.alone.ensures)) ∙ c.if-is_err.false in
-    let v = accepted list ws n c.count_in-count.ensures fine test (c.is_distinct.ensures.0 c.if-not-is_distinct.false) in
-    let t = list_as_told list ws None v in
-    record { value = v; count = exact list ws n c.count_in-count.ensures fine test; told = t.0; only = t.1 }
+    let fine : first_fault 0 ws ≡ None = search rules in
+    let within : is_err (checked (alone list c.count_in-count.result)) ≡ false = search rules in
+    let v = accepted list ws _ c.count_in-count.ensures fine within (c.is_distinct.ensures.0 c.if-not-is_distinct.false) in
+    record { value = v; count = search rules; told = list_as_told list ws _ v; only = λ x h. list_told_only list ws _ x v h }

@@ -1,5 +1,5 @@
 use Rattle.text.proofs.Cuts.{cut_pieces}
-use Rattle.text.proofs.Takes.{gives_each}
+use Rattle.text.proofs.Takes.{gives_each, gives_places}
 use Rattle.text.proofs.pieces.Pieces.all.Goals as goal
 
 pub returns-clause-cut : goal.returns-clause-cut
@@ -7,3 +7,6 @@ returns-clause-cut c = cut_pieces c.args.part c.args.text.now
 
 pub returns-clause-each : goal.returns-clause-each
 returns-clause-each c = gives_each
+
+pub returns-clause-places : goal.returns-clause-places
+returns-clause-places c = gives_places

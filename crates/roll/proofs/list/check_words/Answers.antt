@@ -1,6 +1,6 @@
 use Rattle.std.proofs.Common.{sym, ◌∙◌}
 use Rattle.roll.proofs.Faults.{fault_passed}
-use Rattle.roll.proofs.list.first_fault.Goals as goal
+use Rattle.roll.proofs.list.check_words.Goals as goal
 
 pub loop-word-preserved : goal.loop-word-preserved
 loop-word-preserved c =
