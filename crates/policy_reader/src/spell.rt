@@ -81,7 +81,10 @@ impl<'a> Operand<'a> {
 impl<'a> Token<'a> {
     // The word that the token stands for under the roll.
     fn word(self, roll: &Roll) -> Result<Word, WordFault>
-        ensures { MatchResult result (λ w. (sign_of w ≡ sign self.entry) × IsOperand roll.now w (operand self.entry).bytes.now) (IsFaultOf (bare (sign self.entry)) (operand self.entry) (Listed roll.now (sign self.entry) (operand self.entry).bytes.now)) }
+        ensures { MatchResult result
+            (λ w. (sign_of w ≡ sign self.entry) × IsOperand roll.now w (operand self.entry).bytes.now)
+            (IsFaultOf (bare (sign self.entry)) (operand self.entry)
+            (Listed roll.now (sign self.entry) (operand self.entry).bytes.now)) }
     {
         match self {
             Token::Name(operand) => operand.number_in(roll, List::Names).map(Word::Name),
@@ -105,7 +108,9 @@ impl<'a> Token<'a> {
 
 // The word that the bytes spell, or what is wrong with them.
 pub fn read_word(roll: &Roll, word: Piece) -> Result<Word, WordFault>
-    ensures { MatchResult result (λ w. Spells roll.now w word.entry.bytes.now) (λ f. (f.at ≡ word.entry.at) × Wrong roll.now word.entry.bytes.now f.cause) }
+    ensures { MatchResult result
+        (λ w. Spells roll.now w word.entry.bytes.now)
+        (λ f. (f.at ≡ word.entry.at) × Wrong roll.now word.entry.bytes.now f.cause) }
 {
     cut(word)?.word(roll)
 }

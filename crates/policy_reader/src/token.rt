@@ -42,7 +42,9 @@ impl<'a> Operand<'a> {
 
 // Cuts a word after its sign.
 pub fn cut<'a>(word: Piece<'a>) -> Result<Token<'a>, WordFault>
-    ensures { MatchResult result (λ t. (word.entry.bytes.now ≡ mark (sign t) ++ (operand t).bytes.now) × ((operand t).at ≡ word.entry.at)) (λ f. (f.at ≡ word.entry.at) × Unsigned word.entry.bytes.now f.cause) }
+    ensures { MatchResult result
+        (λ t. (word.entry.bytes.now ≡ mark (sign t) ++ (operand t).bytes.now) × ((operand t).at ≡ word.entry.at))
+        (λ f. (f.at ≡ word.entry.at) × Unsigned word.entry.bytes.now f.cause) }
 {
     let operand = |bytes| Operand { bytes, at: word.at };
     match word.bytes {
