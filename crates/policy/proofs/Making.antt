@@ -1,15 +1,11 @@
 -- The steps of making a policy from words.
-use Rattle.std.proofs.Common.{◌≡◌, ℕ, ◌+◌, ◌-◌, ◌<◌, ◌≤◌, Bool, true, false, not, List, [], ◌∷◌, length, get_or, take, Some, None, Option, MatchOption, sym, refl, ap, ◌∙◌, subst, inl, inr, arith}
+use Rattle.std.proofs.Common.{◌≡◌, ℕ, ◌-◌, ◌<◌, ◌≤◌, true, false, List, length, get_or, take, Some, None, Option, MatchOption, sym, refl, ap, ◌∙◌, subst, inl, inr, arith}
 use borrow.Rule.Slice.PartMut.{mid_of}
-use Rattle.std.specs.List.{position, position_from}
-use Rattle.std.proofs.lemmas.Iterator.Adapters.{position_from-zero}
-use Rattle.std.proofs.lemmas.List.Quantifiers.{position-Some}
-use Rattle.std.proofs.lemmas.Option.{none-some}
-use Rattle.std.proofs.lemmas.Bool.{and_from, true≢false, cases_lt, cases_Bool, cond-true, cond-false, not-true, not-false}
-use Rattle.policy_words.specs.Tree.{Formula, words, allowed, each_allowed}
+use Rattle.std.specs.List.{AllWithin, HoldsAt}
+use Rattle.std.proofs.lemmas.Bool.{cases_lt}
+use Rattle.policy_words.specs.Tree.{Formula, words, Allowed, EachAllowed}
 use Rattle.policy_words.specs.declared.word.Word.{Word}
 use Rattle.policy_words.specs.declared.word.Word.TheVariants.{Name}
-use Rattle.policy_words.proofs.Allows.{allows}
 use Rattle.policy.specs.Free.{First, later, first_loose}
 use Rattle.policy.specs.Policies.{Forbidden}
 use Rattle.policy.specs.declared.entry.Entry.{Entry}
@@ -21,25 +17,10 @@ use Rattle.policy_words.specs.declared.word.Letter.TheVariants as L
 use Rattle.policy.proofs.Places.{Tells}
 use Rattle.policy.proofs.Tables.{table_is, none, entries-length, stands_whole}
 
--- a word that is not allowed
-abbrev pub barred : Word → Bool
-barred w = not (allowed w)
-
-none_barred : (ws : List Word) (i : ℕ) → None ≡ position_from barred i ws → each_allowed ws ≡ true
-none_barred [] i e = refl
-none_barred (w ∷ ws) i e = elim (cases_Bool (allowed w)) [
-  | inl t ↦ and_from (allowed w) (each_allowed ws) t (none_barred ws (i + 1) (e ∙ cond-false _ _ _ (ap not t)))
-  | inr f ↦ absurd (none-some i (e ∙ cond-true _ _ _ (ap not f)))
-]
-
 -- the first word that is not allowed
-pub first_barred : (ws : List Word) (o : Option ℕ) → o ≡ position barred ws → MatchOption o (each_allowed ws ≡ true) (λ k. First (Forbidden ws) k)
-first_barred ws None e = none_barred ws 0 (e ∙ position_from-zero barred ws)
-first_barred ws (Some k) e =
-    let p = position-Some barred ws k (Name 0) (sym e) in (
-      (p.0, λ a. true≢false (sym ((allows (get_or ws k (Name 0))).1 a) ∙ not-true _ p.1)),
-      λ j f. elim (cases_lt j k) [ inr ge ↦ ge | inl less ↦ absurd (f.1 ((allows (get_or ws j (Name 0))).0 (not-false _ (p.2 j less)))) ],
-    )
+pub first_barred : (ws : List Word) (o : Option ℕ) → MatchOption o (AllWithin Allowed ws 0 (length ws)) (λ i. (i < length ws) × HoldsAt (λ w. Allowed w → ⊥) ws i × AllWithin Allowed ws 0 i) → MatchOption o (EachAllowed ws) (λ k. First (Forbidden ws) k)
+first_barred ws None h = λ k d lt. h k d (omega arith) lt
+first_barred ws (Some i) h = ((h.0, h.1 (Name 0)), λ j f. elim (cases_lt j i) [ inr ge ↦ ge | inl less ↦ absurd (f.1 (h.2 j (Name 0) (omega arith) less)) ])
 
 -- the first part of a table
 pub front : (n : ℕ) (xs : List Entry) → mid_of 0 (n - 0) xs ≡ take n xs

@@ -5,7 +5,6 @@ use Rattle.policy_words.specs.Due.{paths_of, formulas_of}
 use Rattle.policy_words.specs.Tree.Formula.{is, same, has, neg, both, either, at_letter, at_name, bind, some}
 use Rattle.policy_words.specs.Tree.Path.{forward, backward, seq, plus, stay}
 use Rattle.policy_words.specs.declared.word.Word.{Word}
-use Rattle.policy_words.specs.declared.word.Word.TheVariants as W
 use Rattle.policy_words.specs.Tree.{root as first_word}
 use Rattle.policy_words.proofs.Rows.{len1, len2, heads, root_p}
 use Rattle.policy.specs.Linking.{Tree, write, enter, head}

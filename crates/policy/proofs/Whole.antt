@@ -1,10 +1,10 @@
 -- Whether a table is a policy's can be decided, so that its formula can be had from the fact that there is one.
 use Rattle.std.proofs.Common.{◌≡◌, ℕ, ◌≤◌, List, [], ◌∷◌, Some, None, Option, sym, refl, ap, ◌∙◌, subst, inl, inr, arith}
-use mathlib.Core.HLevel.{⊥_prop}
-use mathlib.Core.Logic.{∥∥₁_elim, ∥∥₁_map}
+use mathlib.Core.Logic.{∥∥₁_map}
 use Rattle.std.proofs.lemmas.Option.{none-some}
+use Rattle.std.specs.List.{list_all}
 use Rattle.std.proofs.lemmas.Bool.{cases_lt, cases_eq, cases_Bool, true≢false}
-use Rattle.policy_words.specs.Tree.{Formula, words, EachAllowed, each_allowed}
+use Rattle.policy_words.specs.Tree.{Formula, words, EachAllowed, allowed as is_allowed}
 use Rattle.policy_words.specs.declared.word.Word.{Word}
 use Rattle.policy_words.proofs.Rows.{heads, no_cons}
 use Rattle.policy_words.proofs.Unique.{one_tree}
@@ -47,7 +47,7 @@ dec_few : (n : ℕ) → Dec (n ≤ 64)
 dec_few n = elim (cases_lt 64 n) [ inl lt ↦ no (λ h. omega arith) | inr ge ↦ yes ge ]
 
 dec_allowed : (ws : List Word) → Dec (EachAllowed ws)
-dec_allowed ws = elim (cases_Bool (each_allowed ws)) [ inl t ↦ yes (each_allows ws t) | inr f ↦ no (λ h. true≢false (sym (allows_each ws h) ∙ f)) ]
+dec_allowed ws = elim (cases_Bool (list_all is_allowed ws)) [ inl t ↦ yes (each_allows ws t) | inr f ↦ no (λ h. true≢false (sym (allows_each ws h) ∙ f)) ]
 
 dec_proper : (f : Formula) → Dec (Proper f)
 dec_proper f = go (dec_few (size f)) (dec_allowed (words f)) (dec_nowhere _ _ (tells_loose f given)) (dec_nowhere _ _ (tells_stray f))

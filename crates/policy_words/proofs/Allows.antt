@@ -1,7 +1,9 @@
 -- The tests of allowed words.
-use Rattle.std.proofs.Common.{◌≡◌, ℕ, ◌<◌, true, ltb, List, [], ◌∷◌, refl}
-use Rattle.std.proofs.lemmas.Bool.{and_parts, and_from, false≢true, lt-ltb, ltb-true}
-use Rattle.policy_words.specs.Tree.{Settable, settable, Allowed, allowed, EachAllowed, each_allowed}
+use Rattle.std.proofs.Common.{◌≡◌, ℕ, ◌<◌, true, ltb, List, refl}
+use Rattle.std.specs.List.{list_all}
+use Rattle.std.proofs.lemmas.List.Sums.{AllPass-from_list_all, list_all-from_AllPass}
+use Rattle.std.proofs.lemmas.Bool.{false≢true, lt-ltb, ltb-true}
+use Rattle.policy_words.specs.Tree.{Settable, settable, Allowed, allowed, EachAllowed}
 use Rattle.policy_words.specs.declared.word.Letter.{Letter}
 use Rattle.policy_words.specs.declared.word.Letter.TheVariants as L
 use Rattle.policy_words.specs.declared.word.Word.{Word}
@@ -33,10 +35,9 @@ allows W.Seq = (λ e. tt, λ h. refl)
 allows W.Plus = (λ e. tt, λ h. refl)
 allows W.Stay = (λ e. tt, λ h. refl)
 
-pub each_allows : (ws : List Word) → each_allowed ws ≡ true → EachAllowed ws
-each_allows [] e = tt
-each_allows (w ∷ ws) e = let p = and_parts (allowed w) (each_allowed ws) e in ((allows w).0 p.0, each_allows ws p.1)
+-- the test of each word
+pub each_allows : (ws : List Word) → list_all allowed ws ≡ true → EachAllowed ws
+each_allows ws e = λ k d lt. (allows _).0 (AllPass-from_list_all allowed ws e k d lt)
 
-pub allows_each : (ws : List Word) → EachAllowed ws → each_allowed ws ≡ true
-allows_each [] h = refl
-allows_each (w ∷ ws) h = and_from (allowed w) (each_allowed ws) ((allows w).1 h.0) (allows_each ws h.1)
+pub allows_each : (ws : List Word) → EachAllowed ws → list_all allowed ws ≡ true
+allows_each ws h = list_all-from_AllPass allowed ws (λ k d lt. (allows _).1 (h k d lt))

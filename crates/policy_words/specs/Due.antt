@@ -1,5 +1,5 @@
 -- What is due while words are read: first paths, then formulas.
-use Rattle.std.specs.Prelude.{◌≡◌, ℕ, List, [], ◌∷◌, ◌++◌, length}
+use Rattle.std.specs.Prelude.{◌≡◌, ℕ, List, ◌∷◌, ◌++◌, length}
 use Rattle.std.specs.List.{flat_map}
 use Rattle.policy_words.specs.Tree.{Formula, Path, words, steps, Whole}
 use Rattle.policy_words.specs.declared.word.Word.{Word}

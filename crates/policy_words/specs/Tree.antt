@@ -1,5 +1,6 @@
 -- Formulas over paths, and the words that write them, each before its operands.
-use Rattle.std.specs.Prelude.{◌≡◌, ℕ, ◌<◌, Bool, true, false, ◌&&◌, List, [], ◌∷◌, ◌++◌, ◌≢◌, nat_lt}
+use Rattle.std.specs.Prelude.{◌≡◌, ℕ, ◌<◌, Bool, true, false, List, [], ◌∷◌, ◌++◌, ◌≢◌, nat_lt}
+use Rattle.std.specs.List.{All}
 use Rattle.policy_words.specs.declared.word.Letter.{Letter}
 use Rattle.policy_words.specs.declared.word.Letter.TheVariants as L
 use Rattle.policy_words.specs.declared.word.Word.{Word}
@@ -129,12 +130,7 @@ allowed W.Stay = true
 
 -- each word is allowed
 abbrev pub EachAllowed : List Word → Type 0
-EachAllowed [] = Unit {0}
-EachAllowed (w ∷ ws) = Allowed w × EachAllowed ws
-
-abbrev pub each_allowed : List Word → Bool
-each_allowed [] = true
-each_allowed (w ∷ ws) = allowed w && each_allowed ws
+EachAllowed ws = All Allowed ws
 
 -- ws are the words of a formula
 abbrev pub Whole : List Word → Type 0

@@ -1,5 +1,5 @@
 ghost use Rattle.std.specs.Prelude.{◌≡◌, true, Ok, Err, MatchOption, MatchResult};
-ghost use Rattle.policy_words.specs.Tree.{Formula, each_allowed};
+ghost use Rattle.policy_words.specs.Tree.{Formula, EachAllowed};
 ghost use Rattle.policy_words.specs.declared.word.Letter.{Letter as Sign};
 ghost use Rattle.policy.specs.Letters.{has};
 ghost use Rattle.policy.specs.Table.{Stands};
@@ -19,7 +19,7 @@ use policy_words::word::{Letter, Word};
 
 // The first word with a number that no name, label or mark can have, or that sets q or r.
 fn first_forbidden(words: &[Word]) -> Option<usize>
-    ensures { MatchOption result (each_allowed words.now ≡ true) (λ k. First (Forbidden words.now) k) }
+    ensures { MatchOption result (EachAllowed words.now) (λ k. First (Forbidden words.now) k) }
 {
     words.iter().position(|w| !w.is_allowed())
 }

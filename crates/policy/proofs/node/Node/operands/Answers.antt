@@ -2,7 +2,7 @@ use Rattle.std.proofs.Common.{refl, sym, ◌∙◌, None, Some, arith}
 use Rattle.std.proofs.lemmas.Option.{none-some}
 use mathlib.Core.Logic.{∥∥₁_map}
 use Rattle.policy.specs.Nodes.{operands}
-use Rattle.policy.proofs.Walks.{within, shape, single_next, single_second, pair, one_is, two_are, none_are, have_fewer}
+use Rattle.policy.proofs.Walks.{shape, single_next, single_second, pair, one_is, two_are, none_are, have_fewer}
 use Rattle.policy.proofs.node.Node.operands.Goals as goal
 use Rattle.policy.proofs.node.Node.operands.Goals.{in_default-via-in-2+in-None, in_default-via-in_default}
 

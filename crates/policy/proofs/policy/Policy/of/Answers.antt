@@ -1,6 +1,5 @@
 use Rattle.std.proofs.Common.{length, sym, ap, ◌∙◌, subst, arith}
 use Rattle.std.proofs.lemmas.Result.{err_from_is_err_and}
-use Rattle.policy_words.proofs.Allows.{each_allows}
 use Rattle.policy_words.specs.Tree.{EachAllowed}
 use Rattle.policy.specs.Letters.{given}
 use Rattle.policy.specs.Proper.{Proper}
@@ -29,7 +28,7 @@ pub returns-in-Some-first_loose : goal.returns-in-Some-first_loose
 returns-in-Some-first_loose c =
     let w = c.in_ok-shape.ensures.told in
     let m = made (goal.at.returns-in-Some-first_loose c).After-linked-table in
-    (w.1.0, w.1.1, w.0, each_allows _ c.in_default.ensures, from_start _ _ _ (tells_loose w.1.0 given) (c.in-Some-first_loose.ensures w.1.0 m.stands ∙ loose_given w.1.0))
+    (w.1.0, w.1.1, w.0, c.in_default.ensures, from_start _ _ _ (tells_loose w.1.0 given) (c.in-Some-first_loose.ensures w.1.0 m.stands ∙ loose_given w.1.0))
 
 pub returns-in-Some-first_stray : goal.returns-in-Some-first_stray
 returns-in-Some-first_stray c =
@@ -38,7 +37,7 @@ returns-in-Some-first_stray c =
       w.1.0,
       w.1.1,
       w.0,
-      each_allows _ c.in_default.ensures,
+      c.in_default.ensures,
       from_start _ _ _ (tells_loose w.1.0 given) (c.in_default-first_loose.ensures w.1.0 m.stands ∙ loose_given w.1.0),
       from_start _ _ _ (tells_stray w.1.0) (c.in-Some-first_stray.ensures w.1.0 m.stands),
     )
@@ -49,7 +48,7 @@ proper c =
     let m = ready _ _ w.1.0 w.1.1 w.0 c.linked-table.ensures.long c.linked-table.ensures.entries in
     record {
       few = omega (arith, w.0, ap length w.1.1);
-      allowed = subst EachAllowed (sym w.1.1) (each_allows _ c.in_default.ensures);
+      allowed = subst EachAllowed (sym w.1.1) (c.in_default.ensures);
       closed = from_start _ _ _ (tells_loose w.1.0 given) (c.in_default-first_loose.ensures w.1.0 m.stands ∙ loose_given w.1.0);
       anchored = nowhere_anchored _ (from_start _ _ _ (tells_stray w.1.0) (c.in_default-first_stray.ensures w.1.0 m.stands));
     }
