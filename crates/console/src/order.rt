@@ -4,19 +4,14 @@ use requests::number::{byte_number, decimal};
 use roll::list::List;
 use text::pieces::Pieces;
 
-// What is asked of a tie.
+// What is to be done about a tie or a mark fact.
 #[derive(Clone, Copy, Debug, PartialEq, Eq)]
-pub enum TieVerb {
-    Enter,
-    Strike,
-    Ask,
-}
-
-// What is asked of a mark fact.
-#[derive(Clone, Copy, Debug, PartialEq, Eq)]
-pub enum MarkVerb {
-    Set,
-    Lift,
+pub enum Verb {
+    // put it into the book: enter, set
+    Put,
+    // take it out of the book: strike, lift
+    Take,
+    // tell whether it is there
     Ask,
 }
 
@@ -24,9 +19,9 @@ pub enum MarkVerb {
 #[derive(Clone, Copy)]
 pub enum Question<'a> {
     // label, from-name, to-name
-    OfTie(TieVerb, &'a [u8], &'a [u8], &'a [u8]),
+    OfTie(Verb, &'a [u8], &'a [u8], &'a [u8]),
     // mark, name
-    OfMark(MarkVerb, &'a [u8], &'a [u8]),
+    OfMark(Verb, &'a [u8], &'a [u8]),
     // label, direction, name, lowest name that may be told
     Next(&'a [u8], Direction, &'a [u8], u8),
     Tally,
@@ -95,12 +90,12 @@ fn text_behind<'a>(line: &'a [u8], key: &[u8]) -> Option<&'a [u8]> {
 fn of_words<'a>(line: &'a [u8]) -> Option<Order<'a>> {
     let mut words = Pieces::words(line);
     match words.next()?.bytes {
-        b"enter" => of_tie(TieVerb::Enter, words),
-        b"strike" => of_tie(TieVerb::Strike, words),
-        b"tie" => of_tie(TieVerb::Ask, words),
-        b"set" => of_mark(MarkVerb::Set, words),
-        b"lift" => of_mark(MarkVerb::Lift, words),
-        b"mark" => of_mark(MarkVerb::Ask, words),
+        b"enter" => of_tie(Verb::Put, words),
+        b"strike" => of_tie(Verb::Take, words),
+        b"tie" => of_tie(Verb::Ask, words),
+        b"set" => of_mark(Verb::Put, words),
+        b"lift" => of_mark(Verb::Take, words),
+        b"mark" => of_mark(Verb::Ask, words),
         b"next" => of_next(words),
         b"counts" => {
             end(words)?;
@@ -116,7 +111,7 @@ fn end(words: Pieces<'_>) -> Option<()> {
     words.is_over().then_some(())
 }
 
-fn of_tie<'a>(verb: TieVerb, mut words: Pieces<'a>) -> Option<Order<'a>> {
+fn of_tie<'a>(verb: Verb, mut words: Pieces<'a>) -> Option<Order<'a>> {
     let label = words.next()?;
     let from = words.next()?;
     let to = words.next()?;
@@ -124,7 +119,7 @@ fn of_tie<'a>(verb: TieVerb, mut words: Pieces<'a>) -> Option<Order<'a>> {
     Some(Order::Ask(Question::OfTie(verb, label.bytes, from.bytes, to.bytes)))
 }
 
-fn of_mark<'a>(verb: MarkVerb, mut words: Pieces<'a>) -> Option<Order<'a>> {
+fn of_mark<'a>(verb: Verb, mut words: Pieces<'a>) -> Option<Order<'a>> {
     let mark = words.next()?;
     let name = words.next()?;
     end(words)?;

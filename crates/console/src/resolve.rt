@@ -1,5 +1,5 @@
 // The request that a question is, once its words are numbers.
-use crate::order::{MarkVerb, Question, TieVerb};
+use crate::order::{Question, Verb};
 use book::mark::MarkFact;
 use book::tie::{Neighbours, Tie};
 use requests::operand::number_of;
@@ -16,12 +16,12 @@ impl<'a> Question<'a> {
                 let label = number_of(roll, List::Labels, label)?;
                 let from = number_of(roll, List::Names, from)?;
                 let to = number_of(roll, List::Names, to)?;
-                Ok(verb.request(Tie { label, from, to }))
+                Ok(verb.of_tie(Tie { label, from, to }))
             }
             Question::OfMark(verb, mark, name) => {
                 let mark = number_of(roll, List::Marks, mark)?;
                 let name = number_of(roll, List::Names, name)?;
-                Ok(verb.request(MarkFact { mark, name }))
+                Ok(verb.of_mark(MarkFact { mark, name }))
             }
             Question::Next(label, direction, name, at) => {
                 let label = number_of(roll, List::Labels, label)?;
@@ -38,22 +38,20 @@ impl<'a> Question<'a> {
     }
 }
 
-impl TieVerb {
-    fn request(self, tie: Tie) -> Request {
+impl Verb {
+    fn of_tie(self, tie: Tie) -> Request {
         match self {
-            TieVerb::Enter => Request::Alter(Call::Enter(tie)),
-            TieVerb::Strike => Request::Alter(Call::Strike(tie)),
-            TieVerb::Ask => Request::HasTie(tie),
+            Verb::Put => Request::Alter(Call::Enter(tie)),
+            Verb::Take => Request::Alter(Call::Strike(tie)),
+            Verb::Ask => Request::HasTie(tie),
         }
     }
-}
 
-impl MarkVerb {
-    fn request(self, fact: MarkFact) -> Request {
+    fn of_mark(self, fact: MarkFact) -> Request {
         match self {
-            MarkVerb::Set => Request::Alter(Call::SetMark(fact)),
-            MarkVerb::Lift => Request::Alter(Call::LiftMark(fact)),
-            MarkVerb::Ask => Request::HasMark(fact),
+            Verb::Put => Request::Alter(Call::SetMark(fact)),
+            Verb::Take => Request::Alter(Call::LiftMark(fact)),
+            Verb::Ask => Request::HasMark(fact),
         }
     }
 }

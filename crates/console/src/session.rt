@@ -14,7 +14,7 @@ use std::io;
 use std::io::Write;
 
 // The texts of the three lists of a roll.
-#[derive(Drop)]
+#[derive(Clone, Drop)]
 struct Texts {
     names: Vec<u8>,
     labels: Vec<u8>,
@@ -28,15 +28,6 @@ impl Texts {
             labels: Vec::new(heap),
             marks: Vec::new(heap),
         }
-    }
-
-    // The same texts once more.
-    fn copy(&self) -> Result<Texts, AllocError> {
-        Ok(Texts {
-            names: self.names.clone()?,
-            labels: self.labels.clone()?,
-            marks: self.marks.clone()?,
-        })
     }
 
     // The roll that they are, or why they are none.
@@ -110,9 +101,7 @@ impl Session {
 
     // Does what a line orders.
     fn obey<'a>(&'a mut self, line: &'a [u8]) -> Result<Option<Answer<'a>>, Refusal<'a>> {
-        let Ok(order) = Order::parse(line) else {
-            return Err(Refusal::UnknownCommand(line));
-        };
+        let order = Order::parse(line).map_err(|_| Refusal::UnknownCommand(line))?;
         let Some(order) = order else {
             return Ok(None);
         };
@@ -138,34 +127,27 @@ impl Session {
 
     // Opens an empty book, under the roll of the next texts.
     fn open(&mut self, book: Book) -> Result<(), AllocError> {
-        let texts = self.next.copy()?;
+        let texts = self.next.clone()?;
         self.open = Some(Open { texts, book });
         Ok(())
     }
 
     // The book that is open.
     fn opened(&mut self) -> Result<&mut Open, Refusal<'static>> {
-        match &mut self.open {
-            Some(open) => Ok(open),
-            None => Err(Refusal::NoBook),
-        }
+        self.open.as_mut().ok_or(Refusal::NoBook)
     }
 
     // Puts a question to the open book, its words read by the book's roll.
     fn ask<'a>(&'a mut self, question: Question<'a>) -> Result<Answer<'a>, Refusal<'a>> {
-        let Some(open) = &mut self.open else {
-            return Err(Refusal::NoBook);
-        };
+        let open = self.opened()?;
         let roll = open.texts.roll()?;
-        let request = match question.resolve(roll) {
-            Ok(request) => request,
-            Err(word) => return Err(Refusal::UnknownWord(word)),
-        };
+        let request = question.resolve(roll).map_err(Refusal::UnknownWord)?;
         Ok(match open.book.perform(request)? {
             Reply::Done => Answer::Done,
             Reply::Told(there) => Answer::Told(there),
-            Reply::Name(None) => Answer::Name(None),
-            Reply::Name(Some(number)) => Answer::Name(roll.word(List::Names, number)),
+            Reply::Name(name) => {
+                Answer::Name(name.and_then(|number| roll.word(List::Names, number)))
+            }
             Reply::Tally(tally) => Answer::Tally(tally),
         })
     }
