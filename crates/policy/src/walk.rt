@@ -1,5 +1,5 @@
 // Walks over a table, from a word to its operands: each operand's place is above the word's.
-ghost use Rattle.std.specs.Prelude.{◌≡◌, ◌+◌, ◌<◌, length, true, false, MatchOption};
+ghost use Rattle.std.specs.Prelude.{◌≡◌, true, false, MatchOption};
 ghost use Rattle.policy_words.specs.Tree.{Formula, root};
 ghost use Rattle.policy_words.specs.declared.word.Letter.{Letter as Sign};
 ghost use Rattle.policy.specs.Letters.{has};
