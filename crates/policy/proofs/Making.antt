@@ -1,6 +1,5 @@
 -- The steps of making a policy from words.
-use Rattle.std.proofs.Common.{◌≡◌, ℕ, ◌-◌, ◌<◌, ◌≤◌, true, false, List, length, get_or, take, Some, None, Option, MatchOption, sym, refl, ap, ◌∙◌, subst, inl, inr, arith}
-use borrow.Rule.Slice.PartMut.{mid_of}
+use Rattle.std.proofs.Common.{◌≡◌, ℕ, ◌<◌, ◌≤◌, true, false, List, length, get_or, take, Some, None, Option, MatchOption, sym, refl, ap, ◌∙◌, subst, inl, inr, arith}
 use Rattle.std.specs.List.{AllWithin, HoldsAt}
 use Rattle.std.proofs.lemmas.Bool.{cases_lt}
 use Rattle.policy_words.specs.Tree.{Formula, words, Allowed, EachAllowed}
@@ -22,10 +21,6 @@ pub first_barred : (ws : List Word) (o : Option ℕ) → MatchOption o (AllWithi
 first_barred ws None h = λ k d lt. h k d (omega arith) lt
 first_barred ws (Some i) h = ((h.0, h.1 (Name 0)), λ j f. elim (cases_lt j i) [ inr ge ↦ ge | inl less ↦ absurd (f.1 (h.2 j (Name 0) (omega arith) less)) ])
 
--- the first part of a table
-pub front : (n : ℕ) (xs : List Entry) → mid_of 0 (n - 0) xs ≡ take n xs
-front n xs = ap (λ k. take k xs) (omega arith)
-
 later_none : (o : Option ℕ) → later 0 o ≡ o
 later_none None = refl
 later_none (Some k) = ap Some (omega arith)
@@ -45,14 +40,11 @@ loose_given f = ap (λ s. later 0 (first_loose s f)) (λ i v. has-given v i)
 
 -- the table that is made is the formula's
 pub record Ready (ws : List Word) (table : List Entry) (f : Formula) : Type 0 where
-  pub is : take (length ws - 0) table ≡ entries 0 f
-  pub stands : Stands (take (length ws - 0) table) 0 f
-  pub few : length (take (length ws - 0) table) ≤ 64
   pub whole : take (length ws) table ≡ entries 0 f
+  pub stands : Stands (take (length ws) table) 0 f
+  pub few : length (take (length ws) table) ≤ 64
 
 pub ready : (ws : List Word) (table : List Entry) (f : Formula) → words f ≡ ws → length ws ≤ 64 → length table ≡ 64 → ((k : ℕ) → k < length ws → IsEntryAt ws k (get_or table k none)) → Ready ws table f
 ready ws table f e le long h =
     let w = table_is f ws table e (omega arith) h in
-    let t = front (length ws) table ∙ w in
-    let s = stands_whole f _ t in
-    record { is = t; stands = s; few = omega (arith, ap length t, entries-length f 0, ap length e); whole = w }
+    record { whole = w; stands = stands_whole f _ w; few = omega (arith, ap length w, entries-length f 0, ap length e) }

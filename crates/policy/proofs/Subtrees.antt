@@ -6,7 +6,7 @@ use Rattle.policy_words.specs.Tree.Formula.{is, same, has, neg, both, either, at
 use Rattle.policy_words.specs.Tree.Path.{forward, backward, seq, plus, stay}
 use Rattle.policy_words.specs.declared.word.Word.{Word}
 use Rattle.policy_words.specs.Tree.{root as first_word}
-use Rattle.policy_words.proofs.Rows.{len1, len2, heads, root_p}
+use Rattle.policy_words.proofs.Rows.{heads, root_p}
 use Rattle.policy.specs.Linking.{Tree, write, enter, head}
 use Rattle.policy.specs.declared.entry.Entry.{Entry}
 
@@ -31,6 +31,10 @@ kids (inr (seq p t)) = inr p ∷ inr t ∷ []
 kids (inr (plus p)) = inr p ∷ []
 kids (inr stay) = []
 
+-- the i-th operand
+abbrev pub kid_at : List Tree → ℕ → Tree
+kid_at ks i = get_or ks i (inl (is 0))
+
 -- the words, and the entries, of trees in a row
 abbrev pub write_all : List Tree → List Word
 write_all [] = []
@@ -51,6 +55,11 @@ no_second k [] le n = refl
 no_second k (t ∷ []) le n = refl
 no_second k (t ∷ u ∷ []) le n = absurd (n refl)
 no_second k (t ∷ u ∷ v ∷ ts) le n = absurd (omega arith)
+
+pub a_second : (k : ℕ) (ts : List Tree) → length ts ≡ 2 → second_by k ts ≡ Some (k + 1 + length (write (kid_at ts 0)))
+a_second k [] e = absurd (omega arith)
+a_second k (t ∷ []) e = absurd (omega arith)
+a_second k (t ∷ u ∷ ts) e = refl
 
 pub record Node (t : Tree) : Type 0 where
   pub writes : write t ≡ root t ∷ write_all (kids t)
@@ -95,29 +104,15 @@ rooted ws i d t rest lt h =
 pub past : (ws : List Word) (i : ℕ) (t : Tree) (more : List Word) → Has ws i t more → drop (i + length (write t)) ws ≡ more
 past ws i t more h = sym (drop-drop (length (write t)) i ws) ∙ ap (drop (length (write t))) h ∙ drop_at (write t) more (length (write t)) refl
 
--- the operands of a tree with none, one and two
-pub record One (ws : List Word) (i : ℕ) (t : Tree) (rest : List Word) : Type 0 where
-  pub kid : Tree
-  pub is : kids t ≡ kid ∷ []
-  pub at : Has ws (i + 1) kid rest
+-- the i-th operand and those behind it, where their words begin at `next`
+pub record Operand (ws : List Word) (next i : ℕ) (ks : List Tree) (rest : List Word) : Type 0 where
+  pub at : Has ws next (kid_at ks i) (write_all (drop (i + 1) ks) ++ rest)
+  pub size : length (write_all (drop i ks)) ≡ length (write (kid_at ks i)) + length (write_all (drop (i + 1) ks))
 
-pub one : (ws : List Word) (i : ℕ) (d : Word) (t : Tree) (rest : List Word) → Rooted ws i d t rest → length (kids t) ≡ 1 → One ws i t rest
-one ws i d t rest s e =
-    let q = len1 (kids t) e in
-    record { kid = q.0; is = q.1; at = s.then ∙ ap (λ l. write_all l ++ rest) q.1 ∙ ap (λ l. l ++ rest) (append-nil (write q.0)) }
-
-pub record Two (ws : List Word) (i : ℕ) (t : Tree) (rest : List Word) : Type 0 where
-  pub kid : Tree
-  pub next : Tree
-  pub is : kids t ≡ kid ∷ next ∷ []
-  pub at : Has ws (i + 1) kid (write next ++ rest)
-  pub at_next : Has ws (i + 1 + length (write kid)) next rest
-
-pub two : (ws : List Word) (i : ℕ) (d : Word) (t : Tree) (rest : List Word) → Rooted ws i d t rest → length (kids t) ≡ 2 → Two ws i t rest
-two ws i d t rest s e =
-    let q = len2 (kids t) e in
-    let h : Has ws (i + 1) q.0 (write q.1 ++ rest) = s.then ∙ ap (λ l. write_all l ++ rest) q.2 ∙ ap (λ l. (write q.0 ++ l) ++ rest) (append-nil (write q.1)) ∙ append_assoc (write q.0) (write q.1) rest in
-    record { kid = q.0; next = q.1; is = q.2; at = h; at_next = past ws (i + 1) q.0 (write q.1 ++ rest) h }
+pub operand : (ws : List Word) (next i : ℕ) (ks : List Tree) (rest : List Word) → i < length ks → drop next ws ≡ write_all (drop i ks) ++ rest → Operand ws next i ks rest
+operand ws next i ks rest lt h =
+    let e : drop i ks ≡ kid_at ks i ∷ drop (i + 1) ks = drop_more ks i (inl (is 0)) lt in
+    record { at = h ∙ ap (λ l. write_all l ++ rest) e ∙ append_assoc (write (kid_at ks i)) (write_all (drop (i + 1) ks)) rest; size = ap (λ l. length (write_all l)) e ∙ length-append (write (kid_at ks i)) (write_all (drop (i + 1) ks)) }
 
 -- how long a tree is, by its operands
 pub long : (t : Tree) (ks : List Tree) → kids t ≡ ks → length (write t) ≡ suc (length (write_all ks))

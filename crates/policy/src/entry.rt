@@ -2,7 +2,7 @@ use policy_words::word::Word;
 
 // A word of a policy's table. Its first operand is the next word; `second` is the number of the
 // first word of its second operand, if it has one.
-#[derive(Clone, Copy)]
+#[derive(Clone, Copy, Debug, PartialEq, Eq)]
 pub struct Entry {
     pub word: Word,
     pub second: Option<u8>,

@@ -15,18 +15,14 @@ fn end_of(words: &[Word], at: usize) -> usize
     ensures within { at ≤ length words.now → result ≤ length words.now }
     ensures ends { (t : Tree) (rest : List Item) → drop at words.now ≡ write t ++ rest → result ≡ at + length (write t) }
 {
-    if at >= words.len() {
+    let Some(word) = words.get(at) else {
         return at;
+    };
+    let mut next = at + 1;
+    for _ in 0..word.operands() {
+        next = end_of(words, next);
     }
-    let operands = words[at].operands();
-    if operands == 0 {
-        return at + 1;
-    }
-    let end = end_of(words, at + 1);
-    if operands == 1 {
-        return end;
-    }
-    end_of(words, end)
+    next
 }
 
 // The number of the second operand of the word at `at`, if it has one.

@@ -1,5 +1,5 @@
 // Walks over a table, from a word to its operands: each operand's place is above the word's.
-ghost use Rattle.std.specs.Prelude.{◌≡◌, ◌+◌, ◌<◌, length, true, false, MatchOption};
+ghost use Rattle.std.specs.Prelude.{◌≡◌, true, false, MatchOption};
 ghost use Rattle.policy_words.specs.Tree.{Formula, root};
 ghost use Rattle.policy_words.specs.declared.word.Letter.{Letter as Sign};
 ghost use Rattle.policy.specs.Letters.{has};
@@ -55,15 +55,17 @@ impl<'a> Node<'a> {
         let entry = table[at];
         match (entry.word.formulas(), entry.second) {
             (1, None) => Operands::One(Node { table, at: at + 1 }),
-            (1, Some(second)) => {
-                let at = second as usize;
-                Operands::One(Node { table, at })
-            }
-            (2, Some(second)) => {
-                let first = Node { table, at: at + 1 };
-                let at = second as usize;
-                Operands::Two(first, Node { table, at })
-            }
+            (1, Some(second)) => Operands::One(Node {
+                table,
+                at: second.into(),
+            }),
+            (2, Some(second)) => Operands::Two(
+                Node { table, at: at + 1 },
+                Node {
+                    table,
+                    at: second.into(),
+                },
+            ),
             _ => Operands::Leaf,
         }
     }

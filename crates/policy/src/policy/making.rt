@@ -1,4 +1,4 @@
-ghost use Rattle.std.specs.Prelude.{◌≡◌, true, Ok, Err, MatchOption, MatchResult};
+ghost use Rattle.std.specs.Prelude.{◌≡◌, Ok, Err, MatchOption, MatchResult};
 ghost use Rattle.policy_words.specs.Tree.{Formula, EachAllowed};
 ghost use Rattle.policy_words.specs.declared.word.Letter.{Letter as Sign};
 ghost use Rattle.policy.specs.Letters.{has};
@@ -37,7 +37,7 @@ impl Policy {
         let table = linked(words);
         let len = words.len();
         let formula = Node {
-            table: &table[0..len],
+            table: &table[..len],
             at: 0,
         };
         if let Some(k) = formula.first_loose(Letters::GIVEN) {
@@ -71,7 +71,7 @@ impl Policy {
         ensures closed { ClosedIsFree }
         ensures anchored { AnchoredIsAstrayNowhere }
     {
-        &self.table[0..self.len]
+        &self.table[..self.len]
     }
 
     // The letters that the policy leaves free.

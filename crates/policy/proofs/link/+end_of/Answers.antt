@@ -1,41 +1,51 @@
-use Rattle.std.proofs.Common.{◌≡◌, [], ◌∷◌, sym, subst, arith, length-append}
-use Rattle.policy_words.specs.declared.word.Word.TheVariants as W
+use Rattle.std.proofs.Common.{◌≡◌, ℕ, ◌+◌, ◌<◌, List, ◌++◌, length, get_or, drop, refl, sym, ap, ◌∙◌, subst, arith, length-drop}
+use Rattle.std.proofs.lemmas.Bool.{ltb-true, false≢true}
 use Rattle.std.proofs.lemmas.List.{nil_from_length}
-use Rattle.policy.specs.Linking.{write}
-use Rattle.policy.proofs.Subtrees.{Has, rooted, one, two, long, inside, counted, kids, write_all, node}
+use Rattle.policy_words.specs.Due.{paths_of, formulas_of}
+use Rattle.policy_words.specs.declared.word.Word.{Word}
+use Rattle.policy_words.specs.declared.word.Word.TheVariants as W
+use Rattle.policy.specs.Linking.{Tree}
+use Rattle.policy.proofs.Subtrees.{Has, rooted, long, inside, counted, past, operand, kids, write_all}
 use Rattle.policy.proofs.link.+end_of.Goals as goal
 
-pub returns-then-at-words : goal.returns-then-at-words
-returns-then-at-words t c = record { rises = omega arith; within = λ h. h; ends = λ x rest h. absurd (omega (arith, inside c.args.words.now c.args.at x rest h)) }
+count : (ws : List Word) (i : ℕ) (t : Tree) (rest : List Word) (w : Word) {n : ℕ} → i < length ws → Has ws i t rest → w ≡ get_or ws i w → n ≡ paths_of w + formulas_of w → length (kids t) ≡ n
+count ws i t rest w lt h e d = counted ws i w t rest (rooted ws i w t rest lt h) ∙ sym (ap (λ x. paths_of x + formulas_of x) e) ∙ sym d
 
-pub returns-then-operands-eq0 : goal.returns-then-operands-eq0
-returns-then-operands-eq0 t c = record {
-  rises = omega arith;
-  within = λ h. omega arith;
-  ends = λ x rest h.
-      let s = rooted c.args.words.now c.args.at (W.Name 0) x rest (omega arith) h in
-      let none : kids x ≡ [] = nil_from_length (kids x) (omega (arith, counted _ _ _ _ _ s, c.operands-operands.ensures)) in
-      omega (arith, long x [] none);
-}
+pub returns-in_default-clause-ends : goal.returns-in_default-clause-ends
+returns-in_default-clause-ends t c = λ x rest h. absurd (false≢true (c.in_default.ensures.lookup.2 (inside c.args.words.now c.args.at x rest h)))
 
-pub returns-then-operands-eq1 : goal.returns-then-operands-eq1
-returns-then-operands-eq1 t c = record {
-  rises = omega (arith, c.end_of-end.ensures.rises);
-  within = λ h. c.end_of-end.ensures.within (omega arith);
-  ends = λ x rest h.
-      let s = rooted c.args.words.now c.args.at (W.Name 0) x rest (omega arith) h in
-      let k = one _ _ _ _ _ s (omega (arith, counted _ _ _ _ _ s, c.operands-operands.ensures)) in
-      omega (arith, c.end_of-end.ensures.ends k.kid rest k.at, long x (k.kid ∷ []) k.is, length-append (write k.kid) []);
-}
+pub loop-init : goal.loop-init
+loop-init t c =
+    let lt : c.args.at < length c.args.words.now = ltb-true _ _ (sym c.in-Some.ensures.lookup.0) in
+    record {
+      rises = omega arith;
+      within = omega (arith, lt);
+      others = λ x rest h. ((rooted c.args.words.now c.args.at (W.Name 0) x rest lt h).then, omega (arith, long x (kids x) refl));
+    }
 
-pub returns : goal.returns
-returns t c = record {
-  rises = omega (arith, c.end_of-end.ensures.rises, c.end_of.ensures.rises);
-  within = λ h. c.end_of.ensures.within (c.end_of-end.ensures.within (omega arith));
-  ends = λ x rest h.
-      let s = rooted c.args.words.now c.args.at (W.Name 0) x rest (omega arith) h in
-      let k = two _ _ _ _ _ s (omega (arith, counted _ _ _ _ _ s, c.operands-operands.ensures, (node x).few)) in
-      let told = c.end_of-end.ensures.ends k.kid _ k.at in
-      let at : Has c.args.words.now c.end_of-end.result k.next rest = subst (λ n. Has c.args.words.now n k.next rest) (sym told) k.at_next in
-      omega (arith, told, c.end_of.ensures.ends k.next rest at, long x (k.kid ∷ k.next ∷ []) k.is, length-append (write k.kid) (write_all (k.next ∷ [])), length-append (write k.next) []);
-}
+pub end_of-next-requires : goal.end_of-next-requires
+end_of-next-requires t c = let i = c.loop.invariant in (omega (arith, c.decreases, i.rises, i.within), tt)
+
+pub loop-preserved : goal.loop-preserved
+loop-preserved t c =
+    let lt : c.args.at < length c.args.words.now = ltb-true _ _ (sym c.in-Some.ensures.lookup.0) in
+    let i = c.loop.invariant in
+    let e = c.end_of-next.ensures in
+    record {
+      rises = omega (arith, i.rises, e.rises);
+      within = e.within i.within;
+      others = λ x rest h.
+          let o = i.others x rest h in
+          let n = count c.args.words.now c.args.at x rest c.in-Some.word.now lt h c.in-Some.ensures.lookup.1 c.operands-end.ensures in
+          let k = operand c.args.words.now c.loop.next c.loop.counter (kids x) rest (omega (arith, c.loop-test.true, n)) o.0 in
+          let told = e.ends _ _ k.at in
+          (subst (λ n. drop n c.args.words.now ≡ write_all (drop (c.loop.counter + 1) (kids x)) ++ rest) (sym told) (past c.args.words.now c.loop.next _ _ k.at), omega (arith, o.1, told, k.size));
+    }
+
+pub returns-clause-ends : goal.returns-clause-ends
+returns-clause-ends t c = λ x rest h.
+    let lt : c.args.at < length c.args.words.now = ltb-true _ _ (sym c.in-Some.ensures.lookup.0) in
+    let o = c.loop.invariant.others x rest h in
+    let n = count c.args.words.now c.args.at x rest c.in-Some.word.now lt h c.in-Some.ensures.lookup.1 c.operands-end.ensures in
+    let none = nil_from_length (drop c.loop.counter (kids x)) (omega (arith, length-drop c.loop.counter (kids x), c.loop-test.false, n)) in
+    omega (arith, o.1, ap (λ l. length (write_all l)) none)
