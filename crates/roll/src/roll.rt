@@ -14,6 +14,7 @@ pub struct Roll<'a> {
     names: &'a [u8],
     labels: &'a [u8],
     marks: &'a [u8],
+    // each text makes its list: its words have no fault
     ghost names_fine: { list_fault Names (words names.now) ≡ None },
     ghost labels_fine: { list_fault Labels (words labels.now) ≡ None },
     ghost marks_fine: { list_fault Marks (words marks.now) ≡ None },

@@ -28,9 +28,10 @@ impl RollFault {
     }
 }
 
-// Whether the text makes this list of a roll.
+// How many words the text has, where it makes this list of a roll.
 fn check_list(list: List, text: &[u8]) -> Result<u8, RollFault>
-    ensures { MatchResult result (λ _. list_fault list (words text.now) ≡ None) (λ f. (f.list ≡ list) × (list_fault list (words text.now) ≡ Some f.fault)) }
+    ensures count { IfOk result (λ n. n ≡ length (words text.now)) }
+    ensures fault { MatchResult result (λ _. list_fault list (words text.now) ≡ None) (λ f. (f.list ≡ list) × (list_fault list (words text.now) ≡ Some f.fault)) }
 {
     list.check(text).map_err(|fault| RollFault { list, fault })
 }
