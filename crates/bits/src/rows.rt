@@ -21,6 +21,7 @@ pub fn flip(words: &mut [u64], i: usize)
     ensures turned { i < length words.old * 64 → (j : ℕ) → bit_set words.new j ≡ (if nat_eq i j then not (bit_set words.old j) else bit_set words.old j) }
     ensures past { length words.old * 64 ≤ i → words.new ≡ words.old }
 {
+    // by its place, since of a slice `get_mut` tells nothing where it gives none
     let at = i / 64;
     if at < words.len() {
         words[at] ^= 1u64 << (i % 64);

@@ -52,6 +52,7 @@ impl Reading for BoardBook {
 
     fn next(&self, of: Neighbours, at: u8) -> Result<Option<u8>, RangeRefusal> {
         self.counts().check_next(of, at)?;
+        // two ways and no closure: a word's bits at once, or bit by bit
         Ok(match of.direction {
             Direction::Forward => self.next_to(of, at),
             Direction::Backward => self.next_from(of, at),
@@ -59,6 +60,7 @@ impl Reading for BoardBook {
     }
 }
 
+// Each call says that there are as many words after it as before (`long`), which no fact of one board says.
 impl Keeping for BoardBook {
     fn capacity(&self) -> usize {
         possible_ties(self.counts())

@@ -26,7 +26,8 @@ pub(crate) fn possible_ties(counts: Counts) -> usize
 }
 
 impl BoardBook {
-    // Whether a board of these counts can be made over so many words.
+    // Whether a board of these counts can be made over so many words. Counts and words stand apart, since
+    // the one is a number of words here and the words themselves in `new`.
     pub fn check(counts: Counts, words: usize) -> Result<(), BoardRefusal>
         ensures answer { result ≡ fitting counts words }
         ensures fits { Decides (is_ok result) (Within counts × (possible counts ≤ words * 64)) }

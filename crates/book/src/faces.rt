@@ -33,7 +33,8 @@ pub trait Reading {
     fn has_mark(&self, fact: MarkFact) -> Result<bool, RangeRefusal>
         ensures { MarkTold (meaning self.now) fact result };
 
-    // The lowest of the neighbours that is not below `at`.
+    // The lowest of the neighbours that is not below `at`. This stands beside them and not in them, since
+    // who goes through the neighbours of a name asks for the same ones again, each time from higher on.
     fn next(&self, of: Neighbours, at: u8) -> Result<Option<u8>, RangeRefusal>
         ensures { Next (meaning self.now) of at result };
 
@@ -42,7 +43,8 @@ pub trait Reading {
 
 // A book that can be altered too.
 pub trait Keeping: Reading {
-    // What a make keeps true of itself from call to call, where it has more to tell than its meaning.
+    // What a make keeps true of itself from call to call, where it has more to tell than its meaning. Each
+    // call says that it keeps it, since a ghost field can't speak of the meaning of a type parameter.
     ghost holds: { Self → Type 0 } = { λ _. Unit {0} };
 
     // How many ties the book can hold.

@@ -29,6 +29,7 @@ pub enum Refusal<'a> {
     OutOfMemory(AllocError),
 }
 
+// Answers and refusals write themselves and are no `Display`, since they echo bytes that may be no text.
 impl Answer<'_> {
     // Adds the answer to the output.
     pub fn write_to(self, out: &mut impl Write) -> io::Result<()> {

@@ -4,7 +4,7 @@ use requests::number::{byte_number, decimal};
 use roll::list::List;
 use text::pieces::Pieces;
 
-// What is to be done about a tie or a mark fact.
+// What is to be done about a tie or a mark fact. An enum, since the gate refuses functions that are kept.
 #[derive(Clone, Copy, Debug, PartialEq, Eq)]
 pub enum Verb {
     // put it into the book: enter, set
@@ -45,7 +45,7 @@ pub enum Order<'a> {
 pub struct UnknownOrder;
 
 impl<'a> Order<'a> {
-    // The order that a line gives; a remark and an empty line give none.
+    // The order that a line gives; a remark and an empty line give none, and so this is no `TryFrom`.
     pub fn parse(line: &'a [u8]) -> Result<Option<Order<'a>>, UnknownOrder> {
         if line.is_empty() || line.starts_with(b"--") {
             return Ok(None);

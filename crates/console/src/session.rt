@@ -49,7 +49,7 @@ impl Texts {
     }
 }
 
-// A book of either make.
+// A book of either make. An enum, since the gate refuses values of an open kind that are kept.
 #[derive(Drop)]
 enum Book {
     List(ListBook),

@@ -12,7 +12,8 @@ pub mod keeping;
 pub mod making;
 pub mod reading;
 
-// A book whose ties stand in the first places of its row, each once.
+// A book whose ties stand in the first places of its row, each once. The row is its caller's, with places
+// that the book never fills, so that how many it may fill and how many are filled stand beside it.
 #[derive(Drop)]
 pub struct ListBook {
     // the counts and the mark facts

@@ -7,7 +7,7 @@ use book::counts::Counts;
 #[derive(Drop)]
 pub struct MarkBoard {
     pub(crate) counts: Counts,
-    // bit 64 * mark + name: whether the name has the mark
+    // bit 64 * mark + name: whether the name has the mark; of fixed size, since books allocate nothing
     pub(crate) words: [u64; 16],
     // how many mark facts there are
     pub(crate) used: usize,

@@ -14,7 +14,8 @@ pub struct Node<'a> {
     ghost formula: { ∥ ((f : Formula) × Stands table.now at f) ∥₁ },
 }
 
-// The operands of a word that are formulas, by their first words.
+// The operands of a word that are formulas, by their first words. There are two at most, and a list of
+// options would say it less plainly.
 #[derive(Clone, Copy)]
 pub enum Operands<'a> {
     Leaf,

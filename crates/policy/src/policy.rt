@@ -6,7 +6,9 @@ ghost use Rattle.policy.specs.Proper.{Written};
 
 use crate::entry::Entry;
 
-// A policy: the first `len` entries of its table are those of one formula, which is closed and
+// A policy, of fixed size, since it is `Copy` and allocates nothing. What formula it is the policy of
+// (`Means`) is told by its calls and is no model: that would be the table read back into a tree.
+// The first `len` entries of its table are those of one formula, which is closed and
 // anchored, and each number is one that a name, a label or a mark can have.
 #[derive(Clone, Copy)]
 pub struct Policy {

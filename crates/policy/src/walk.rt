@@ -82,7 +82,10 @@ impl<'a> Node<'a> {
         left_free(self.word(), inner)
     }
 
-    // The place of the first loose word of the formula, where the letters of `set` are set.
+    // The place of the first loose word of the formula, where the letters of `set` are set. This and
+    // `first_stray` are two searches: one for both would take a trait with laws and an enum of its
+    // steps, to save one match. The second operand is asked in a match and not in `or_else`, since
+    // of a closure in a cycle of calls nothing is known.
     pub fn first_loose(self, set: Letters) -> Option<usize>
         ensures { (f : Formula) → Leads self.entry f → result ≡ later self.entry.at (first_loose (λ v. has v set) f) }
     {

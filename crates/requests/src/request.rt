@@ -10,7 +10,7 @@ use book::refusal::EnterRefusal;
 use book::tie::{Neighbours, Tie};
 use runs::play::{Answer, Call, play};
 
-// A request to a book of any make.
+// A request to a book of any make. A case each and no closure: what is replied is a law over requests.
 #[derive(Clone, Copy, Debug, PartialEq, Eq)]
 pub enum Request {
     Alter(Call),

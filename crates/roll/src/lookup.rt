@@ -7,7 +7,8 @@ ghost use Rattle.roll.specs.Lists.{numbered, place_of, Distinct};
 
 use text::pieces::Pieces;
 
-// How many words the text has, 65 for more than 64.
+// How many words the text has, 65 for more than 64. That no list has so many is all that is asked of
+// such a count, and no further word is looked at.
 pub fn count_in(text: &[u8]) -> u8
     ensures { result ≡ min 65 (length (words text.now)) }
 {

@@ -15,7 +15,8 @@ pub fn find<T: Eq>(row: &[T], thing: &T) -> Option<usize>
 }
 
 // Puts `thing` after the first `used` things of `row`, unless it is among them or no place is left.
-// Answers the place at which it stood already, or none where it was put.
+// Answers the place at which it stood already, or none where it was put. The row is lent with the
+// number of its used places beside it, and not a vector, since a row is its caller's and nothing allocates.
 pub fn add<T: Eq + Copy>(row: &mut [T], used: usize, thing: T) -> Result<Option<usize>, Full>
     ensures { Adds T.eq row.old row.new used thing result }
 {

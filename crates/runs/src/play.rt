@@ -7,7 +7,7 @@ use book::mark::MarkFact;
 use book::refusal::EnterRefusal;
 use book::tie::Tie;
 
-// A call that may alter a book.
+// A call that may alter a book. A case each and no closure: lists of calls are data, of which the law speaks.
 #[derive(Clone, Copy, Debug, PartialEq, Eq)]
 pub enum Call {
     Enter(Tie),
@@ -34,7 +34,8 @@ pub fn step<B: Keeping>(book: &mut B, call: Call) -> Answer
 }
 
 // Makes the calls one after the other, as many as there are places for their answers, writes each
-// answer to its place, and tells how many calls were made.
+// answer to its place, and tells how many calls were made. The places are the caller's, since calls on books
+// allocate nothing, and are written by number, since nothing is known of what a zip over `iter_mut` wrote.
 pub fn play<B: Keeping>(book: &mut B, calls: &[Call], answers: &mut [Answer]) -> usize
     ensures count { result ≡ min (length calls.now) (length answers.old) }
     ensures answers { answers.new ≡ answered (B.meaning book.old) (take result calls.now) ++ drop result answers.old }
