@@ -13,7 +13,7 @@ use policy_words::word::{Letter, Word};
 use roll::list::List;
 use roll::roll::Roll;
 use text::pieces::Piece;
-use text::word::{cause_of, is_plain};
+use text::word::{check_word, is_plain};
 
 // How many words of a list a policy can name.
 fn limit_of(list: List) -> u8
@@ -43,9 +43,9 @@ impl<'a> Operand<'a> {
     fn check(self) -> Result<(), WordFault>
         ensures { ReadAs false self.entry (λ _. Fine self.entry.bytes.now) result }
     {
-        match cause_of(self.bytes) {
-            None => Ok(()),
-            Some(cause) => Err(self.fault(cause.into())),
+        match check_word(self.bytes) {
+            Ok(()) => Ok(()),
+            Err(cause) => Err(self.fault(cause.into())),
         }
     }
 

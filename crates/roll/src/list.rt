@@ -10,7 +10,7 @@ ghost use Rattle.roll.specs.declared.list.ListFault.TheVariants.{Word};
 use crate::lookup::{count_in, is_distinct};
 use book::counts::Counts;
 use text::pieces::Pieces;
-use text::word::{WordCause, WordFault, cause_of};
+use text::word::{WordCause, WordFault, check_word};
 
 // Which of the three lists of a roll.
 #[derive(Clone, Copy, Debug, PartialEq, Eq)]
@@ -64,9 +64,7 @@ fn check_words(text: &[u8]) -> Result<(), WordFault<WordCause>>
     ensures { result_err result ≡ first_fault 0 (words text.now) }
 {
     for word in Pieces::words(text) {
-        if let Some(cause) = cause_of(word.bytes) {
-            return Err(WordFault { cause, at: word.at });
-        }
+        check_word(word.bytes).map_err(|cause| WordFault { cause, at: word.at })?;
     }
     Ok(())
 }

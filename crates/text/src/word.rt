@@ -1,4 +1,5 @@
-ghost use Rattle.std.specs.Prelude.{◌≡◌, Decides, MatchOption};
+ghost use Rattle.std.specs.Prelude.{◌≡◌, Decides, MatchResult};
+ghost use Rattle.std.specs.Result.{result_err};
 ghost use Rattle.text.specs.Word.{plain_byte, plain, cause_of, cause_number, Plain, Fine, Wrong};
 
 // What is wrong with a word by itself.
@@ -44,16 +45,16 @@ pub fn is_plain(bytes: &[u8]) -> bool
     bytes.iter().all(|b| is_plain_byte(*b))
 }
 
-// What is wrong with a word, if anything: a bad byte comes before a bad length.
-pub fn cause_of(word: &[u8]) -> Option<WordCause>
-    ensures value { result ≡ cause_of word.now }
-    ensures means { MatchOption result (Fine word.now) (λ c. Wrong word.now c) }
+// Refuses a word that is faulty by itself: a bad byte comes before a bad length.
+pub fn check_word(word: &[u8]) -> Result<(), WordCause>
+    ensures value { result_err result ≡ cause_of word.now }
+    ensures means { MatchResult result (λ _. Fine word.now) (λ c. Wrong word.now c) }
 {
     if !is_plain(word) {
-        return Some(WordCause::BadByte);
+        return Err(WordCause::BadByte);
     }
     if word.is_empty() || word.len() > 16 {
-        return Some(WordCause::BadLength);
+        return Err(WordCause::BadLength);
     }
-    None
+    Ok(())
 }
