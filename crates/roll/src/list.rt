@@ -1,8 +1,6 @@
-ghost use Rattle.std.specs.Prelude.{◌≡◌, not, length, IfOk, Some, None, Option};
-ghost use Rattle.std.specs.Option.{option_map};
+ghost use Rattle.std.specs.Prelude.{◌≡◌, length, IfOk, Option};
 ghost use Rattle.std.specs.Result.{result_err};
 ghost use Rattle.text.specs.Text.{words};
-ghost use Rattle.book.specs.Limits.{within};
 ghost use Rattle.roll.specs.Numbers.{list_number, fault_number, fault_place};
 ghost use Rattle.roll.specs.Lists.{alone, first_fault, list_fault, ListTold};
 ghost use Rattle.roll.specs.declared.list.ListFault.TheVariants.{Word};

@@ -1,5 +1,5 @@
 // Look-up in the words of a text, of which the first 64 have numbers.
-ghost use Rattle.std.specs.Prelude.{◌≡◌, ℕ, ◌<◌, ◌≤◌, min, true, false, length, Decides, IfSome};
+ghost use Rattle.std.specs.Prelude.{◌≡◌, ◌<◌, min, length, Decides, IfSome};
 ghost use Rattle.std.specs.Option.{option_map};
 ghost use Rattle.std.specs.List.{slice_get};
 ghost use Rattle.text.specs.Text.{words};
