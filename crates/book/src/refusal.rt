@@ -49,7 +49,7 @@ impl From<Full> for EnterRefusal {
     ghost from_gives = { λ e r. r ≡ BookFull };
 
     fn from(_full: Full) -> EnterRefusal {
-        EnterRefusal::Full
+        Self::Full
     }
 }
 

@@ -1,4 +1,5 @@
-// The pieces of a text, in which one byte parts each from the next.
+// The pieces of a text, in which one byte parts each from the next. A text is bytes here and no `str`, since
+// what comes from outside may be no text.
 pub mod taking;
 
 ghost use Rattle.std.specs.Prelude.{◌≤◌, length, unwrap_or};
