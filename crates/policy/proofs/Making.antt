@@ -1,12 +1,8 @@
 -- The steps of making a policy from words.
-use Rattle.std.proofs.Common.{◌≡◌, ℕ, ◌<◌, ◌≤◌, true, false, List, length, get_or, take, Some, None, Option, MatchOption, sym, refl, ap, ◌∙◌, subst, inl, inr, arith}
-use Rattle.std.specs.List.{AllWithin, HoldsAt}
-use Rattle.std.proofs.lemmas.Bool.{cases_lt}
-use Rattle.policy_words.specs.Tree.{Formula, words, Allowed, EachAllowed}
+use Rattle.std.proofs.Common.{◌≡◌, ℕ, ◌<◌, ◌≤◌, true, false, List, length, get_or, take, Some, None, Option, sym, refl, ap, ◌∙◌, subst, arith}
+use Rattle.policy_words.specs.Tree.{Formula, words}
 use Rattle.policy_words.specs.declared.word.Word.{Word}
-use Rattle.policy_words.specs.declared.word.Word.TheVariants.{Name}
-use Rattle.policy.specs.Free.{First, later, first_loose}
-use Rattle.policy.specs.Policies.{Forbidden}
+use Rattle.policy.specs.Free.{later, first_loose}
 use Rattle.policy.specs.declared.entry.Entry.{Entry}
 use Rattle.policy.specs.Letters.{has, given}
 use Rattle.policy.specs.Table.{entries, Stands}
@@ -15,11 +11,6 @@ use Rattle.policy_words.specs.declared.word.Letter.{Letter}
 use Rattle.policy_words.specs.declared.word.Letter.TheVariants as L
 use Rattle.policy.proofs.Places.{Tells}
 use Rattle.policy.proofs.Tables.{table_is, none, entries-length, stands_whole}
-
--- the first word that is not allowed
-pub first_barred : (ws : List Word) (o : Option ℕ) → MatchOption o (AllWithin Allowed ws 0 (length ws)) (λ i. (i < length ws) × HoldsAt (λ w. Allowed w → ⊥) ws i × AllWithin Allowed ws 0 i) → MatchOption o (EachAllowed ws) (λ k. First (Forbidden ws) k)
-first_barred ws None h = λ k d lt. h k d (omega arith) lt
-first_barred ws (Some i) h = ((h.0, h.1 (Name 0)), λ j f. elim (cases_lt j i) [ inr ge ↦ ge | inl less ↦ absurd (f.1 (h.2 j (Name 0) (omega arith) less)) ])
 
 later_none : (o : Option ℕ) → later 0 o ≡ o
 later_none None = refl
@@ -44,7 +35,7 @@ pub record Ready (ws : List Word) (table : List Entry) (f : Formula) : Type 0 wh
   pub stands : Stands (take (length ws) table) 0 f
   pub few : length (take (length ws) table) ≤ 64
 
-pub ready : (ws : List Word) (table : List Entry) (f : Formula) → words f ≡ ws → length ws ≤ 64 → length table ≡ 64 → ((k : ℕ) → k < length ws → IsEntryAt ws k (get_or table k none)) → Ready ws table f
+pub ready : (ws : List Word) (table : List Entry) (f : Formula) → words f ≡ ws → length ws ≤ 64 → length table ≡ 64 → ((k : ℕ) → k < 64 → IsEntryAt ws k (get_or table k none)) → Ready ws table f
 ready ws table f e le long h =
-    let w = table_is f ws table e (omega arith) h in
+    let w = table_is f ws table e (omega arith) (λ k lt. h k (omega arith)) in
     record { whole = w; stands = stands_whole f _ w; few = omega (arith, ap length w, entries-length f 0, ap length e) }

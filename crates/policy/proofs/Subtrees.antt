@@ -1,5 +1,5 @@
 -- A tree by its first word and the trees under it.
-use Rattle.std.proofs.Common.{◌≡◌, ℕ, suc, ◌+◌, ◌<◌, ◌≤◌, List, [], ◌∷◌, ◌++◌, length, get_or, drop, Some, None, Option, sym, refl, ap, ◌∙◌, inl, inr, append_assoc, append-nil, arith, length-append, length-drop}
+use Rattle.std.proofs.Common.{◌≡◌, ℕ, suc, ◌+◌, ◌<◌, List, [], ◌∷◌, ◌++◌, length, get_or, drop, Some, None, Option, sym, refl, ap, ◌∙◌, inl, inr, append_assoc, append-nil, arith, length-append, length-drop}
 use Rattle.std.proofs.lemmas.List.{drop_more, drop-drop, drop_at}
 use Rattle.policy_words.specs.Due.{paths_of, formulas_of}
 use Rattle.policy_words.specs.Tree.Formula.{is, same, has, neg, both, either, at_letter, at_name, bind, some}
@@ -50,12 +50,6 @@ second_by k [] = None
 second_by k (t ∷ []) = None
 second_by k (t ∷ u ∷ ts) = Some (k + 1 + length (write t))
 
-pub no_second : (k : ℕ) (ts : List Tree) → length ts ≤ 2 → (length ts ≡ 2 → ⊥) → second_by k ts ≡ None
-no_second k [] le n = refl
-no_second k (t ∷ []) le n = refl
-no_second k (t ∷ u ∷ []) le n = absurd (n refl)
-no_second k (t ∷ u ∷ v ∷ ts) le n = absurd (omega arith)
-
 pub a_second : (k : ℕ) (ts : List Tree) → length ts ≡ 2 → second_by k ts ≡ Some (k + 1 + length (write (kid_at ts 0)))
 a_second k [] e = absurd (omega arith)
 a_second k (t ∷ []) e = absurd (omega arith)
@@ -67,38 +61,46 @@ pub record Node (t : Tree) : Type 0 where
   pub enters : (k : ℕ) → enter k t ≡ head k t ∷ enter_all (k + 1) (kids t)
   pub word : (k : ℕ) → (head k t).word ≡ root t
   pub second : (k : ℕ) → (head k t).second ≡ second_by k (kids t)
-  pub few : length (kids t) ≤ 2
 
 pub node : (t : Tree) → Node t
-node (inl (is n)) = record { writes = refl; count = refl; enters = λ k. refl; word = λ k. refl; second = λ k. refl; few = omega arith }
-node (inl (same u)) = record { writes = refl; count = refl; enters = λ k. refl; word = λ k. refl; second = λ k. refl; few = omega arith }
-node (inl (has m)) = record { writes = refl; count = refl; enters = λ k. refl; word = λ k. refl; second = λ k. refl; few = omega arith }
-node (inl (neg f)) = record { writes = simp append-nil; count = refl; enters = λ k. simp append-nil; word = λ k. refl; second = λ k. refl; few = omega arith }
-node (inl (both f g)) = record { writes = simp append-nil; count = refl; enters = λ k. simp append-nil; word = λ k. refl; second = λ k. refl; few = omega arith }
-node (inl (either f g)) = record { writes = simp append-nil; count = refl; enters = λ k. simp append-nil; word = λ k. refl; second = λ k. refl; few = omega arith }
-node (inl (at_letter u f)) = record { writes = simp append-nil; count = refl; enters = λ k. simp append-nil; word = λ k. refl; second = λ k. refl; few = omega arith }
-node (inl (at_name n f)) = record { writes = simp append-nil; count = refl; enters = λ k. simp append-nil; word = λ k. refl; second = λ k. refl; few = omega arith }
-node (inl (bind u f)) = record { writes = simp append-nil; count = refl; enters = λ k. simp append-nil; word = λ k. refl; second = λ k. refl; few = omega arith }
-node (inl (some p f)) = record { writes = simp append-nil; count = refl; enters = λ k. simp append-nil; word = λ k. refl; second = λ k. refl; few = omega arith }
-node (inr (forward l)) = record { writes = refl; count = refl; enters = λ k. refl; word = λ k. refl; second = λ k. refl; few = omega arith }
-node (inr (backward l)) = record { writes = refl; count = refl; enters = λ k. refl; word = λ k. refl; second = λ k. refl; few = omega arith }
-node (inr (seq p t)) = record { writes = simp append-nil; count = refl; enters = λ k. simp append-nil; word = λ k. refl; second = λ k. refl; few = omega arith }
-node (inr (plus p)) = record { writes = simp append-nil; count = refl; enters = λ k. simp append-nil; word = λ k. refl; second = λ k. refl; few = omega arith }
-node (inr stay) = record { writes = refl; count = refl; enters = λ k. refl; word = λ k. refl; second = λ k. refl; few = omega arith }
+node (inl (is n)) = record { writes = refl; count = refl; enters = λ k. refl; word = λ k. refl; second = λ k. refl }
+node (inl (same u)) = record { writes = refl; count = refl; enters = λ k. refl; word = λ k. refl; second = λ k. refl }
+node (inl (has m)) = record { writes = refl; count = refl; enters = λ k. refl; word = λ k. refl; second = λ k. refl }
+node (inl (neg f)) = record { writes = simp append-nil; count = refl; enters = λ k. simp append-nil; word = λ k. refl; second = λ k. refl }
+node (inl (both f g)) = record { writes = simp append-nil; count = refl; enters = λ k. simp append-nil; word = λ k. refl; second = λ k. refl }
+node (inl (either f g)) = record { writes = simp append-nil; count = refl; enters = λ k. simp append-nil; word = λ k. refl; second = λ k. refl }
+node (inl (at_letter u f)) = record { writes = simp append-nil; count = refl; enters = λ k. simp append-nil; word = λ k. refl; second = λ k. refl }
+node (inl (at_name n f)) = record { writes = simp append-nil; count = refl; enters = λ k. simp append-nil; word = λ k. refl; second = λ k. refl }
+node (inl (bind u f)) = record { writes = simp append-nil; count = refl; enters = λ k. simp append-nil; word = λ k. refl; second = λ k. refl }
+node (inl (some p f)) = record { writes = simp append-nil; count = refl; enters = λ k. simp append-nil; word = λ k. refl; second = λ k. refl }
+node (inr (forward l)) = record { writes = refl; count = refl; enters = λ k. refl; word = λ k. refl; second = λ k. refl }
+node (inr (backward l)) = record { writes = refl; count = refl; enters = λ k. refl; word = λ k. refl; second = λ k. refl }
+node (inr (seq p t)) = record { writes = simp append-nil; count = refl; enters = λ k. simp append-nil; word = λ k. refl; second = λ k. refl }
+node (inr (plus p)) = record { writes = simp append-nil; count = refl; enters = λ k. simp append-nil; word = λ k. refl; second = λ k. refl }
+node (inr stay) = record { writes = refl; count = refl; enters = λ k. refl; word = λ k. refl; second = λ k. refl }
 
 -- the table ws has the tree t at the place i, and then the words rest
 abbrev pub Has : List Word → ℕ → Tree → List Word → Type 0
 Has ws i t rest = drop i ws ≡ write t ++ rest
 
--- of a tree in the table: the word at its place is its first, and its operands begin at the next
-pub record Rooted (ws : List Word) (i : ℕ) (d : Word) (t : Tree) (rest : List Word) : Type 0 where
-  pub first : get_or ws i d ≡ root t
-  pub then : drop (i + 1) ws ≡ write_all (kids t) ++ rest
+-- how long a tree is, by its operands
+pub long : (t : Tree) (ks : List Tree) → kids t ≡ ks → length (write t) ≡ suc (length (write_all ks))
+long t ks e = ap length (node t).writes ∙ ap (λ l. suc (length (write_all l))) e
 
-pub rooted : (ws : List Word) (i : ℕ) (d : Word) (t : Tree) (rest : List Word) → i < length ws → Has ws i t rest → Rooted ws i d t rest
-rooted ws i d t rest lt h =
-    let q = heads _ _ _ _ (sym (drop_more ws i d lt) ∙ h ∙ ap (λ l. l ++ rest) (node t).writes) in
-    record { first = q.0; then = q.1 }
+pub inside : (ws : List Word) (i : ℕ) (t : Tree) (rest : List Word) → Has ws i t rest → i < length ws
+inside ws i t rest h = omega (arith, length-drop i ws, ap length h, length-append (write t) rest, long t (kids t) refl)
+
+-- of a tree in the table: the word at its place is its first, its operands begin at the next, and the word tells their number
+pub record Rooted (ws : List Word) (i : ℕ) (w : Word) (t : Tree) (rest : List Word) : Type 0 where
+  pub first : w ≡ root t
+  pub then : drop (i + 1) ws ≡ write_all (kids t) ++ rest
+  pub count : length (kids t) ≡ paths_of w + formulas_of w
+
+pub rooted : (ws : List Word) (i : ℕ) (w d : Word) (t : Tree) (rest : List Word) → w ≡ get_or ws i d → Has ws i t rest → Rooted ws i w t rest
+rooted ws i w d t rest e h =
+    let q = heads _ _ _ _ (sym (drop_more ws i d (inside ws i t rest h)) ∙ h ∙ ap (λ l. l ++ rest) (node t).writes) in
+    let first : w ≡ root t = e ∙ q.0 in
+    record { first = first; then = q.1; count = (node t).count ∙ sym (ap (λ x. paths_of x + formulas_of x) first) }
 
 -- past the first of the trees at i
 pub past : (ws : List Word) (i : ℕ) (t : Tree) (more : List Word) → Has ws i t more → drop (i + length (write t)) ws ≡ more
@@ -113,14 +115,3 @@ pub operand : (ws : List Word) (next i : ℕ) (ks : List Tree) (rest : List Word
 operand ws next i ks rest lt h =
     let e : drop i ks ≡ kid_at ks i ∷ drop (i + 1) ks = drop_more ks i (inl (is 0)) lt in
     record { at = h ∙ ap (λ l. write_all l ++ rest) e ∙ append_assoc (write (kid_at ks i)) (write_all (drop (i + 1) ks)) rest; size = ap (λ l. length (write_all l)) e ∙ length-append (write (kid_at ks i)) (write_all (drop (i + 1) ks)) }
-
--- how long a tree is, by its operands
-pub long : (t : Tree) (ks : List Tree) → kids t ≡ ks → length (write t) ≡ suc (length (write_all ks))
-long t ks e = ap length (node t).writes ∙ ap (λ l. suc (length (write_all l))) e
-
-pub inside : (ws : List Word) (i : ℕ) (t : Tree) (rest : List Word) → Has ws i t rest → i < length ws
-inside ws i t rest h = omega (arith, length-drop i ws, ap length h, length-append (write t) rest, long t (kids t) refl)
-
--- the number of operands, by the word in the table
-pub counted : (ws : List Word) (i : ℕ) (d : Word) (t : Tree) (rest : List Word) → Rooted ws i d t rest → length (kids t) ≡ paths_of (get_or ws i d) + formulas_of (get_or ws i d)
-counted ws i d t rest s = (node t).count ∙ sym (ap (λ w. paths_of w + formulas_of w) s.first)

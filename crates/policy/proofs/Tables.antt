@@ -87,7 +87,7 @@ part (suc n) t k ws rest j le h lo hi =
           record { tree = t; rest = rest; at = subst (λ m. Has ws m t rest) (sym e) h; is = ap (λ l. get_or l (j - k) none) ((node t).enters k) ∙ ap (λ i. get_or (head k t ∷ enter_all (k + 1) (kids t)) i none) first ∙ ap (λ m. head m t) (sym e) }
       | inr ne ↦
           let size = long t (kids t) refl in
-          let s = rooted ws k (W.Name 0) t rest (omega (arith, length-drop k ws, ap length h, length-append (write t) rest, size)) h in
+          let s = rooted ws k (get_or ws k (W.Name 0)) (W.Name 0) t rest refl h in
           let p = parts n (part n) (kids t) (k + 1) ws rest j (omega (arith, size)) s.then (omega arith) (omega (arith, size)) in
           let next : j - k ≡ suc (j - (k + 1)) = omega arith in
           record { tree = p.tree; rest = p.rest; at = p.at; is = ap (λ l. get_or l (j - k) none) ((node t).enters k) ∙ ap (λ i. get_or (head k t ∷ enter_all (k + 1) (kids t)) i none) next ∙ p.is }

@@ -1,26 +1,22 @@
 -- A formula in a table, by its first word and the formulas under it.
-use Rattle.std.proofs.Common.{◌≡◌, ℕ, ◌+◌, ◌<◌, Bool, true, false, cond, ◌||◌, List, [], ◌∷◌, length, get_or, Some, None, Option, sym, refl, ap, ◌∙◌, subst, inl, add-zero, arith}
-use Rattle.std.proofs.Math.Bool.{or-false}
+use Rattle.std.proofs.Common.{◌≡◌, ℕ, ◌+◌, ◌<◌, Bool, true, cond, List, [], ◌∷◌, length, get_or, Some, None, Option, sym, refl, ap, ◌∙◌, subst, inl, add-zero, arith}
 use Rattle.std.proofs.Math.Bridge.{le_prop}
 use mathlib.Core.Logic.{∥∥₁_elim}
 use Rattle.policy_words.specs.Due.{formulas_of}
 use Rattle.policy_words.specs.Tree.{Formula, root}
 use Rattle.policy_words.specs.Tree.Formula.{is, same, has, neg, both, either, at_letter, at_name, bind, some}
 use Rattle.policy_words.specs.declared.word.Letter.{Letter}
-use Rattle.policy_words.specs.declared.word.Letter.TheVariants as L
 use Rattle.policy_words.specs.declared.word.Word.{Word}
 use Rattle.policy_words.specs.declared.word.Word.TheVariants as W
-use Rattle.policy.specs.Letters.{has as holds}
 use Rattle.policy.specs.Linking.{head}
 use Rattle.policy.specs.Table.{plain, Stands, Reads}
-use Rattle.policy.specs.Free.{free, first, later, first_loose}
+use Rattle.policy.specs.Free.{first, later, first_loose}
 use Rattle.policy.specs.Nodes.{operands, Leads, Follows, AreOperands, left, HaveFewer}
-use Rattle.policy.specs.Steps.{free_by, settled, set_by}
+use Rattle.policy.specs.Steps.{settled, set_by}
 use Rattle.policy.specs.declared.entry.Entry.{Entry}
 use Rattle.policy.specs.declared.node.Node.{Node}
 use Rattle.policy.specs.declared.node.Operands.{Operands}
 use Rattle.policy.specs.declared.node.Operands.TheVariants.{Leaf, One, Two}
-use Rattle.policy.proofs.Subtrees.{node}
 
 -- the entry of a formula's first word
 pub reads : (es : List Entry) (k : ℕ) (f : Formula) → Stands es k f → Reads es k (head k (inl f))
@@ -39,23 +35,16 @@ reads es k (some p f) r = r.0
 abbrev pub here : Node → Entry
 here n = get_or n.table.now n.at (plain (W.Name 0))
 
-pub word_is : (n : Node) (f : Formula) → Leads n f → (here n).word ≡ root f
-word_is n f l = ap (λ e. e.word) (reads n.table.now n.at f l).1 ∙ (node (inl f)).word n.at
-
 pub below : (es : List Entry) (k : ℕ) (f : Formula) → Stands es k f → k < length es
 below es k f s = (reads es k f s).0
 
 pub within : (n : Node) → n.at < length n.table.now
 within n = ∥∥₁_elim n.formula le_prop (λ x. below n.table.now n.at x.0 x.1)
 
--- what a walk over the operands finds first, and whether the letter v is free in one of them
+-- what a walk over the operands finds first
 abbrev pub first_in : (Formula → Option ℕ) → List (ℕ × Formula) → Option ℕ
 first_in g [] = None
 first_in g (p ∷ ps) = first (later (1 + p.0) (g p.1)) (first_in g ps)
-
-abbrev pub any_free : Letter → List (ℕ × Formula) → Bool
-any_free v [] = false
-any_free v (p ∷ ps) = free v p.1 || any_free v ps
 
 first_none : (o : Option ℕ) → first o None ≡ o
 first_none None = refl
@@ -80,14 +69,13 @@ pub record OneOf (n : Node) (ps : List (ℕ × Formula)) (x : Node) : Type 0 whe
   pub table : x.table.now ≡ n.table.now
   pub rises : n.at < x.at
   pub found : (g : Formula → Option ℕ) → later n.at (first_in g ps) ≡ later x.at (g kid)
-  pub letters : (v : Letter) → any_free v ps ≡ free v kid
 
 found_at : (n : Node) (p : ℕ × Formula) (x : Node) (g : Formula → Option ℕ) → Follows n p x → later n.at (later (1 + p.0) (g p.1)) ≡ later x.at (g p.1)
 found_at n p x g a = let e : n.at + (1 + p.0) ≡ x.at = omega (arith, a.at) in later-later n.at (1 + p.0) (g p.1) ∙ ap (λ k. later k (g p.1)) e
 
 pub one_of : (n : Node) (ps : List (ℕ × Formula)) (x : Node) → AreOperands n ps (One x) → OneOf n ps x
 one_of n [] x a = absurd a
-one_of n (p ∷ []) x a = record { kid = p.1; leads = a.leads; table = a.table; rises = omega (arith, a.at); found = λ g. ap (later n.at) (first_none _) ∙ found_at n p x g a; letters = λ v. or-false _ }
+one_of n (p ∷ []) x a = record { kid = p.1; leads = a.leads; table = a.table; rises = omega (arith, a.at); found = λ g. ap (later n.at) (first_none _) ∙ found_at n p x g a }
 one_of n (p ∷ q ∷ ps) x a = absurd a
 
 -- the two operands of a word
@@ -101,7 +89,6 @@ pub record TwoOf (n : Node) (ps : List (ℕ × Formula)) (x y : Node) : Type 0 w
   pub rises : n.at < x.at
   pub rises_next : n.at < y.at
   pub found : (g : Formula → Option ℕ) → later n.at (first_in g ps) ≡ first (later x.at (g kid)) (later y.at (g next))
-  pub letters : (v : Letter) → any_free v ps ≡ (free v kid || free v next)
 
 two_only : (n : Node) (p q : ℕ × Formula) (x y : Node) → Follows n p x → Follows n q y → TwoOf n (p ∷ q ∷ []) x y
 two_only n p q x y a b = record {
@@ -114,18 +101,12 @@ two_only n p q x y a b = record {
   rises = omega (arith, a.at);
   rises_next = omega (arith, b.at);
   found = λ g. later_first n.at (later (1 + p.0) (g p.1)) _ ∙ (λ i. first (found_at n p x g a i) ((ap (later n.at) (first_none _) ∙ found_at n q y g b) i));
-  letters = λ v. ap (λ z. free v p.1 || z) (or-false _);
 }
 
 pub two_of : (n : Node) (ps : List (ℕ × Formula)) (x y : Node) → AreOperands n ps (Two x y) → TwoOf n ps x y
 two_of n [] x y a = absurd a
 two_of n (p ∷ []) x y a = absurd a
 two_of n (p ∷ q ∷ ps) x y a = subst (λ l. TwoOf n (p ∷ q ∷ l) x y) (sym a.0) (two_only n p q x y a.1 a.2)
-
-pub none_of : (n : Node) (ps : List (ℕ × Formula)) → AreOperands n ps Leaf → ps ≡ []
-none_of n [] a = refl
-none_of n (p ∷ []) a = absurd a
-none_of n (p ∷ q ∷ ps) a = absurd a
 
 shorter : (n x : Node) → n.at < x.at → x.table.now ≡ n.table.now → left x < left n
 shorter n x lt e = omega (arith, lt, within n, within x, ap length e)
@@ -138,20 +119,7 @@ have_fewer n (Two x y) h = (
   ∥∥₁_elim n.formula le_prop (λ f. let o = two_of n (operands f.0) x y (h f.0 f.1) in shorter n y o.rises_next o.table_next),
 )
 
--- a formula by its first word and its operands: the letters that it leaves free
-pub free_is : (v : Letter) (f : Formula) → free v f ≡ free_by v (root f) (any_free v (operands f))
-free_is v (is n) = refl
-free_is v (same u) = sym (or-false _)
-free_is v (has m) = refl
-free_is v (neg f) = sym (or-false _)
-free_is v (both f g) = ap (λ z. free v f || z) (sym (or-false _))
-free_is v (either f g) = ap (λ z. free v f || z) (sym (or-false _))
-free_is v (at_letter u f) = ap (free_by v (W.AtLetter u)) (sym (or-false _))
-free_is v (at_name n f) = sym (or-false _)
-free_is v (bind u f) = ap (free_by v (W.Bind u)) (sym (or-false _))
-free_is v (some p f) = sym (or-false _)
-
--- its first loose word, where the first word names only letters that are set
+-- the first loose word of a formula, where its first word names only letters that are set
 loose_under : (s : Letter → Bool) (f : Formula) → settled s (root f) ≡ true → first_loose s f ≡ first_in (first_loose (set_by (root f) s)) (operands f)
 loose_under s (is n) h = refl
 loose_under s (same u) h = ap (λ b. cond b None (Some 0)) h
@@ -218,9 +186,6 @@ single_second n [] k h = absurd (omega arith)
 single_second n (p ∷ []) k h = single_at n p k h.1 h.2
 single_second n (p ∷ q ∷ ps) k h = absurd (omega (arith, h.1))
 
-pub one_is : (n : Node) (ps : List (ℕ × Formula)) (x : Node) → Single n ps x.at → x.table.now ≡ n.table.now → AreOperands n ps (One x)
-one_is n ps x s e = rw s.is record { table = e; at = s.at; leads = subst (λ es. Stands es x.at s.kid.1) (sym e) s.stands }
-
 -- two formulas are the operands, and they stand at the next place and at the place k
 pub record Pair (n : Node) (ps : List (ℕ × Formula)) (k : ℕ) : Type 0 where
   pub kid : ℕ × Formula
@@ -239,22 +204,3 @@ pair n (p ∷ q ∷ ps) k h =
     let s = h.2 in
     let d : k ≡ n.at + 1 + q.0 = cc in
     record { kid = p; next = q; is = ap (λ l. p ∷ q ∷ l) h.0; at = e; at_next = d; stands = subst (λ j. Stands n.table.now j p.1) (sym e) h.4; stands_next = subst (λ j. Stands n.table.now j q.1) (sym d) h.5 }
-
-pub two_are : (n : Node) (ps : List (ℕ × Formula)) (x y : Node) → Pair n ps y.at → x.at ≡ n.at + 1 → x.table.now ≡ n.table.now → y.table.now ≡ n.table.now → AreOperands n ps (Two x y)
-two_are n ps x y s a e d =
-    rw s.is (
-      refl,
-      record { table = e; at = a ∙ s.at; leads = subst (λ es. Stands es x.at s.kid.1) (sym e) (subst (λ j. Stands n.table.now j s.kid.1) (sym a) s.stands) },
-      record { table = d; at = s.at_next; leads = subst (λ es. Stands es y.at s.next.1) (sym d) s.stands_next },
-    )
-
-pub none_are : (n : Node) (ps : List (ℕ × Formula)) (c : ℕ) (s : Option ℕ) → Shape n ps c s → (c ≡ 1 → ⊥) → ((k : ℕ) → c ≡ 2 → s ≡ Some k → ⊥) → AreOperands n ps Leaf
-none_are n [] c s h a b = tt
-none_are n (p ∷ []) c s h a b = a h.0
-none_are n (p ∷ q ∷ ps) c s h a b = b _ h.1 h.2
-
-pub none_has : (v : Letter) → holds v (record { requester = false; resource = false; a = false; b = false }) ≡ false
-none_has L.Requester = refl
-none_has L.Resource = refl
-none_has L.A = refl
-none_has L.B = refl

@@ -12,7 +12,7 @@ use super::Policy;
 use crate::entry::Entry;
 use crate::fault::WordsFault;
 use crate::letters::Letters;
-use crate::link::linked;
+use crate::link::Words;
 use crate::node::Node;
 use policy_words::shape::shape;
 use policy_words::word::{Letter, Word};
@@ -34,7 +34,7 @@ impl Policy {
         if let Some(k) = first_forbidden(words) {
             return Err(WordsFault::Number(k));
         }
-        let table = linked(words);
+        let table = Words { list: words }.table();
         let len = words.len();
         let formula = Node {
             table: &table[..len],

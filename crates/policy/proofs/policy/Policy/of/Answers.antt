@@ -1,39 +1,30 @@
 use Rattle.std.proofs.Common.{length, sym, ap, ◌∙◌, subst, arith}
-use Rattle.std.proofs.lemmas.Result.{err_from_is_err_and}
 use Rattle.policy_words.specs.Tree.{EachAllowed}
 use Rattle.policy.specs.Letters.{given}
 use Rattle.policy.specs.Proper.{Proper}
 use Rattle.policy.proofs.Places.{tells_loose, tells_stray, nowhere_anchored}
 use Rattle.policy.proofs.Making.{Ready, ready, from_start, loose_given}
 use Rattle.policy.proofs.policy.Policy.of.Goals as goal
-use Rattle.policy.proofs.policy.Policy.of.Goals.{After-linked-table, In_default-first_stray}
+use Rattle.policy.proofs.policy.Policy.of.Goals.{After-table-table, In_default-first_stray}
 
-made : (c : After-linked-table) → Ready c.args.words.now c.linked-table.result c.in_ok-shape.ensures.told.1.0
-made c = let w = c.in_ok-shape.ensures.told in ready _ _ w.1.0 w.1.1 w.0 c.linked-table.ensures.long c.linked-table.ensures.entries
-
-pub returns-in_err-shape : goal.returns-in_err-shape
-returns-in_err-shape c =
-    let p = err_from_is_err_and c.from_residual.result c.from_residual.ensures.1 in
-    rw (p.1, p.2) c.in_err-shape.ensures.told
-
-pub returns-in-Some : goal.returns-in-Some
-returns-in-Some c = let w = c.in_ok-shape.ensures.told in (w.1, w.0, c.in-Some.ensures)
+made : (c : After-table-table) → Ready c.args.words.now c.table-table.result c.in_ok-shape.ensures.told.1.0
+made c = let w = c.in_ok-shape.ensures.told in ready _ _ w.1.0 w.1.1 w.0 c.table-table.ensures.long c.table-table.ensures.entries
 
 pub invariant_of-formula : goal.invariant_of-formula
 invariant_of-formula c =
-    let m = made (goal.at.invariant_of-formula c).After-linked-table in
+    let m = made (goal.at.invariant_of-formula c).After-table-table in
     record { few = m.few; formula = ∣ (_, m.stands) ∣₁ }
 
 pub returns-in-Some-first_loose : goal.returns-in-Some-first_loose
 returns-in-Some-first_loose c =
     let w = c.in_ok-shape.ensures.told in
-    let m = made (goal.at.returns-in-Some-first_loose c).After-linked-table in
+    let m = made (goal.at.returns-in-Some-first_loose c).After-table-table in
     (w.1.0, w.1.1, w.0, c.in_default.ensures, from_start _ _ _ (tells_loose w.1.0 given) (c.in-Some-first_loose.ensures w.1.0 m.stands ∙ loose_given w.1.0))
 
 pub returns-in-Some-first_stray : goal.returns-in-Some-first_stray
 returns-in-Some-first_stray c =
     let w = c.in_ok-shape.ensures.told in
-    let m = made (goal.at.returns-in-Some-first_stray c).After-linked-table in (
+    let m = made (goal.at.returns-in-Some-first_stray c).After-table-table in (
       w.1.0,
       w.1.1,
       w.0,
@@ -45,7 +36,7 @@ returns-in-Some-first_stray c =
 proper : (c : In_default-first_stray) → Proper c.in_ok-shape.ensures.told.1.0
 proper c =
     let w = c.in_ok-shape.ensures.told in
-    let m = ready _ _ w.1.0 w.1.1 w.0 c.linked-table.ensures.long c.linked-table.ensures.entries in
+    let m = ready _ _ w.1.0 w.1.1 w.0 c.table-table.ensures.long c.table-table.ensures.entries in
     record {
       few = omega (arith, w.0, ap length w.1.1);
       allowed = subst EachAllowed (sym w.1.1) (c.in_default.ensures);
@@ -56,11 +47,11 @@ proper c =
 pub invariant_of-result : goal.invariant_of-result
 invariant_of-result c =
     let w = c.in_ok-shape.ensures.told in
-    let m = made (goal.at.invariant_of-result c).After-linked-table in
+    let m = made (goal.at.invariant_of-result c).After-table-table in
     record { fits = w.0; whole = ∣ (w.1.0, m.whole, proper (goal.at.invariant_of-result c).In_default-first_stray) ∣₁ }
 
 pub returns : goal.returns
 returns c =
     let w = c.in_ok-shape.ensures.told in
-    let m = made (goal.at.returns c).After-linked-table in
+    let m = made (goal.at.returns c).After-table-table in
     (w.1.0, (w.1.1, proper (goal.at.returns c).In_default-first_stray), m.whole)

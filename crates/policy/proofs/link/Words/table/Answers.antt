@@ -6,7 +6,7 @@ use denote.Param.Members.{Mut}
 use Rattle.policy_words.specs.declared.word.Word.TheVariants as W
 use Rattle.policy.specs.Table.{plain}
 use Rattle.policy.specs.Linking.{IsEntryAt}
-use Rattle.policy.proofs.link.linked.Goals as goal
+use Rattle.policy.proofs.link.Words.table.Goals as goal
 
 -- where a closure stays as it is and what it gives has P, each item of the array has P
 module _ {F B : Type 0} (g : Mut F (ℕ × Unit {0}) B) (P : ℕ → B → Type 0) (f : F) (ys : List B) (e : B) (gives : (i : ℕ) (y : B) (q : F) → Called g f (i, tt) y q → (q ≡ f) × P i y) where
@@ -21,4 +21,4 @@ module _ {F B : Type 0} (g : Mut F (ℕ × Unit {0}) B) (P : ℕ → B → Type 
 
 pub returns-clause-entries : goal.returns-clause-entries
 returns-clause-entries c = λ k lt.
-    each _ (IsEntryAt c.args.words.now) _ c.from_fn.result (plain (W.Name 0)) (λ i y q call. search rules) 64 0 c.from_fn.ensures.items.each k (omega arith) (omega arith)
+    each _ (IsEntryAt c.args.self.now) _ c.from_fn.result (plain (W.Name 0)) (λ i y q call. search rules) 64 0 c.from_fn.ensures.items.each k (omega arith) (omega arith)
