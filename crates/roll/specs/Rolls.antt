@@ -20,7 +20,7 @@ text_of r Marks = r.marks.now
 abbrev pub words_of : Roll → List → Seq (Seq ℕ)
 words_of r list = words (text_of r list)
 
--- each text makes its list, as in every roll that was read
+-- each text makes its list, as in every roll
 abbrev pub Sound : Roll → Type 0
 Sound r = (list : List) → Good list (words_of r list)
 

@@ -58,7 +58,12 @@ pub fn limits() -> usize {
 // Whether a book is the one that is made after a failed check.
 fn is_least<B: Keeping>(book: &mut B) -> bool {
     let tie = Tie::default();
-    let least = book.counts() == Counts::LEAST && book.capacity() == 0;
+    let one_name = Counts {
+        names: 1,
+        labels: 0,
+        marks: 0,
+    };
+    let least = book.counts() == one_name && book.capacity() == 0;
     let fact = MarkFact { mark: 0, name: 0 };
     least && refused(step(book, Call::Enter(tie)), 1) && refused(step(book, Call::SetMark(fact)), 1)
 }
