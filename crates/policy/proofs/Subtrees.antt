@@ -63,21 +63,7 @@ pub record Node (t : Tree) : Type 0 where
   pub second : (k : ℕ) → (head k t).second ≡ second_by k (kids t)
 
 pub node : (t : Tree) → Node t
-node (inl (is n)) = record { writes = refl; count = refl; enters = λ k. refl; word = λ k. refl; second = λ k. refl }
-node (inl (same u)) = record { writes = refl; count = refl; enters = λ k. refl; word = λ k. refl; second = λ k. refl }
-node (inl (has m)) = record { writes = refl; count = refl; enters = λ k. refl; word = λ k. refl; second = λ k. refl }
-node (inl (neg f)) = record { writes = simp append-nil; count = refl; enters = λ k. simp append-nil; word = λ k. refl; second = λ k. refl }
-node (inl (both f g)) = record { writes = simp append-nil; count = refl; enters = λ k. simp append-nil; word = λ k. refl; second = λ k. refl }
-node (inl (either f g)) = record { writes = simp append-nil; count = refl; enters = λ k. simp append-nil; word = λ k. refl; second = λ k. refl }
-node (inl (at_letter u f)) = record { writes = simp append-nil; count = refl; enters = λ k. simp append-nil; word = λ k. refl; second = λ k. refl }
-node (inl (at_name n f)) = record { writes = simp append-nil; count = refl; enters = λ k. simp append-nil; word = λ k. refl; second = λ k. refl }
-node (inl (bind u f)) = record { writes = simp append-nil; count = refl; enters = λ k. simp append-nil; word = λ k. refl; second = λ k. refl }
-node (inl (some p f)) = record { writes = simp append-nil; count = refl; enters = λ k. simp append-nil; word = λ k. refl; second = λ k. refl }
-node (inr (forward l)) = record { writes = refl; count = refl; enters = λ k. refl; word = λ k. refl; second = λ k. refl }
-node (inr (backward l)) = record { writes = refl; count = refl; enters = λ k. refl; word = λ k. refl; second = λ k. refl }
-node (inr (seq p t)) = record { writes = simp append-nil; count = refl; enters = λ k. simp append-nil; word = λ k. refl; second = λ k. refl }
-node (inr (plus p)) = record { writes = simp append-nil; count = refl; enters = λ k. simp append-nil; word = λ k. refl; second = λ k. refl }
-node (inr stay) = record { writes = refl; count = refl; enters = λ k. refl; word = λ k. refl; second = λ k. refl }
+node t = record { writes = grind (arith, append-nil); count = grind arith; enters = λ k. grind (arith, append-nil); word = λ k. grind arith; second = λ k. grind arith }
 
 -- the table ws has the tree t at the place i, and then the words rest
 abbrev pub Has : List Word → ℕ → Tree → List Word → Type 0
