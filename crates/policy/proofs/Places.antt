@@ -36,14 +36,8 @@ loose_below (is n) s k h = absurd h
 loose_below (same v) s k h = omega (arith, h.0)
 loose_below (has m) s k h = absurd h
 loose_below (neg f) s k h = omega (arith, h.1, loose_below f s h.0 h.2)
-loose_below (both f g) s k h = elim h [
-  | inl a ↦ omega (arith, a.1, loose_below f s a.0 a.2, length-append (words f) (words g))
-  | inr b ↦ omega (arith, b.1, loose_below g s b.0 b.2, length-append (words f) (words g))
-]
-loose_below (either f g) s k h = elim h [
-  | inl a ↦ omega (arith, a.1, loose_below f s a.0 a.2, length-append (words f) (words g))
-  | inr b ↦ omega (arith, b.1, loose_below g s b.0 b.2, length-append (words f) (words g))
-]
+loose_below (both f g) s k h = grind (arith, loose_below f s, loose_below g s, length-append (words f) (words g))
+loose_below (either f g) s k h = grind (arith, loose_below f s, loose_below g s, length-append (words f) (words g))
 loose_below (at_letter v f) s k h = elim h [ inl a ↦ omega (arith, a.0) | inr b ↦ omega (arith, b.1, loose_below f s b.0 b.2) ]
 loose_below (at_name n f) s k h = omega (arith, h.1, loose_below f s h.0 h.2)
 loose_below (bind v f) s k h = omega (arith, h.1, loose_below f (setting v s) h.0 h.2)
@@ -54,14 +48,8 @@ stray_below (is n) k h = omega arith
 stray_below (same v) k h = omega arith
 stray_below (has m) k h = omega arith
 stray_below (neg f) k h = omega (arith, h.1, stray_below f h.0 h.2)
-stray_below (both f g) k h = elim h [
-  | inl a ↦ omega (arith, a.1, stray_below f a.0 a.2, length-append (words f) (words g))
-  | inr b ↦ omega (arith, b.1, stray_below g b.0 b.2, length-append (words f) (words g))
-]
-stray_below (either f g) k h = elim h [
-  | inl a ↦ omega (arith, a.1, stray_below f a.0 a.2, length-append (words f) (words g))
-  | inr b ↦ omega (arith, b.1, stray_below g b.0 b.2, length-append (words f) (words g))
-]
+stray_below (both f g) k h = grind (arith, stray_below f, stray_below g, length-append (words f) (words g))
+stray_below (either f g) k h = grind (arith, stray_below f, stray_below g, length-append (words f) (words g))
 stray_below (at_letter v f) k h = omega (arith, h.0)
 stray_below (at_name n f) k h = omega arith
 stray_below (bind v f) k h = omega arith
