@@ -1,5 +1,5 @@
 -- The steps of making a policy from words.
-use Rattle.std.proofs.Common.{◌≡◌, ℕ, ◌<◌, ◌≤◌, true, false, List, length, get_or, take, Some, None, Option, sym, refl, ap, ◌∙◌, subst, arith}
+use Rattle.std.proofs.Common.{◌≡◌, ℕ, ◌<◌, ◌≤◌, true, false, List, length, get_or, take, Option, sym, ap, ◌∙◌, subst, arith}
 use Rattle.policy_words.specs.Tree.{Formula, words}
 use Rattle.policy_words.specs.declared.word.Word.{Word}
 use Rattle.policy.specs.Free.{later, first_loose}
@@ -8,23 +8,18 @@ use Rattle.policy.specs.Letters.{has, given}
 use Rattle.policy.specs.Table.{entries, Stands}
 use Rattle.policy.specs.Linking.{IsEntryAt}
 use Rattle.policy_words.specs.declared.word.Letter.{Letter}
-use Rattle.policy_words.specs.declared.word.Letter.TheVariants as L
 use Rattle.policy.proofs.Places.{Tells}
 use Rattle.policy.proofs.Tables.{table_is, none, entries-length, stands_whole}
 
 later_none : (o : Option ℕ) → later 0 o ≡ o
-later_none None = refl
-later_none (Some k) = ap Some (omega arith)
+later_none o = grind arith
 
 -- a walk from the first word of the table
 pub from_start : (x o : Option ℕ) (P : ℕ → Type 0) → Tells o P → x ≡ later 0 o → Tells x P
 from_start x o P t e = subst (λ y. Tells y P) (sym (e ∙ later_none o)) t
 
 has-given : (v : Letter) → has v (record { requester = true; resource = true; a = false; b = false }) ≡ given v
-has-given L.Requester = refl
-has-given L.Resource = refl
-has-given L.A = refl
-has-given L.B = refl
+has-given v = grind arith
 
 pub loose_given : (f : Formula) → later 0 (first_loose (λ v. has v (record { requester = true; resource = true; a = false; b = false })) f) ≡ later 0 (first_loose given f)
 loose_given f = ap (λ s. later 0 (first_loose s f)) (λ i v. has-given v i)

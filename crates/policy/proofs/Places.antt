@@ -1,11 +1,11 @@
 -- First places: the functions and the relations, and what the relations say.
-use Rattle.std.proofs.Common.{◌≡◌, ℕ, ◌+◌, ◌<◌, ◌≤◌, Bool, true, false, cond, not, ◌||◌, eqb, ◌⊎◌, Some, None, Option, sym, refl, ap, ◌∙◌, inl, inr, arith, length-append}
-use Rattle.std.proofs.lemmas.Bool.{true≢false, false≢true, eqb-true, or_cases, or_left, or_right, and_parts, and_from, not-true, not_from_false, true_from_ne_false}
+use Rattle.std.proofs.Common.{◌≡◌, ℕ, ◌+◌, ◌<◌, ◌≤◌, Bool, true, false, cond, not, ◌||◌, ◌⊎◌, Some, None, Option, sym, refl, ap, ◌∙◌, inl, inr, arith, length-append}
+use Rattle.std.proofs.lemmas.Bool.{true≢false, false≢true, or_cases, or_left, or_right, and_parts, and_from, not-true, not_from_false, true_from_ne_false}
 use Rattle.policy_words.specs.Tree.{Formula, words, steps}
 use Rattle.policy_words.specs.Tree.Formula.{is, same, has, neg, both, either, at_letter, at_name, bind, some}
 use Rattle.policy_words.specs.declared.word.Letter.{Letter}
 use Rattle.policy_words.specs.declared.word.Letter.TheVariants as L
-use Rattle.policy.specs.Letters.{number, alike, given, setting}
+use Rattle.policy.specs.Letters.{alike, given, setting}
 use Rattle.policy.specs.Table.{size, extent}
 use Rattle.policy.specs.Free.{free, Later, Loose, First, Nowhere, first, later, first_loose, ClosedIsFree}
 use Rattle.policy.specs.Anchor.{Anchored, Stray, first_stray, AnchoredIsAstrayNowhere}
@@ -36,14 +36,8 @@ loose_below (is n) s k h = absurd h
 loose_below (same v) s k h = omega (arith, h.0)
 loose_below (has m) s k h = absurd h
 loose_below (neg f) s k h = omega (arith, h.1, loose_below f s h.0 h.2)
-loose_below (both f g) s k h = elim h [
-  | inl a ↦ omega (arith, a.1, loose_below f s a.0 a.2, length-append (words f) (words g))
-  | inr b ↦ omega (arith, b.1, loose_below g s b.0 b.2, length-append (words f) (words g))
-]
-loose_below (either f g) s k h = elim h [
-  | inl a ↦ omega (arith, a.1, loose_below f s a.0 a.2, length-append (words f) (words g))
-  | inr b ↦ omega (arith, b.1, loose_below g s b.0 b.2, length-append (words f) (words g))
-]
+loose_below (both f g) s k h = grind (arith, loose_below f s, loose_below g s, length-append (words f) (words g))
+loose_below (either f g) s k h = grind (arith, loose_below f s, loose_below g s, length-append (words f) (words g))
 loose_below (at_letter v f) s k h = elim h [ inl a ↦ omega (arith, a.0) | inr b ↦ omega (arith, b.1, loose_below f s b.0 b.2) ]
 loose_below (at_name n f) s k h = omega (arith, h.1, loose_below f s h.0 h.2)
 loose_below (bind v f) s k h = omega (arith, h.1, loose_below f (setting v s) h.0 h.2)
@@ -54,14 +48,8 @@ stray_below (is n) k h = omega arith
 stray_below (same v) k h = omega arith
 stray_below (has m) k h = omega arith
 stray_below (neg f) k h = omega (arith, h.1, stray_below f h.0 h.2)
-stray_below (both f g) k h = elim h [
-  | inl a ↦ omega (arith, a.1, stray_below f a.0 a.2, length-append (words f) (words g))
-  | inr b ↦ omega (arith, b.1, stray_below g b.0 b.2, length-append (words f) (words g))
-]
-stray_below (either f g) k h = elim h [
-  | inl a ↦ omega (arith, a.1, stray_below f a.0 a.2, length-append (words f) (words g))
-  | inr b ↦ omega (arith, b.1, stray_below g b.0 b.2, length-append (words f) (words g))
-]
+stray_below (both f g) k h = grind (arith, stray_below f, stray_below g, length-append (words f) (words g))
+stray_below (either f g) k h = grind (arith, stray_below f, stray_below g, length-append (words f) (words g))
 stray_below (at_letter v f) k h = omega (arith, h.0)
 stray_below (at_name n f) k h = omega arith
 stray_below (bind v f) k h = omega arith
@@ -92,28 +80,14 @@ tells_stray (bind v f) = only_start
 tells_stray (some p f) = only_start
 
 -- letters
-letter_of : ℕ → Letter
-letter_of n = cond (eqb n 0) L.Requester (cond (eqb n 1) L.Resource (cond (eqb n 2) L.A L.B))
-
-letter_back : (v : Letter) → letter_of (number v) ≡ v
-unfolding letter_of
-letter_back L.Requester = refl
-letter_back L.Resource = refl
-letter_back L.A = refl
-letter_back L.B = refl
-
 alike_same : (v u : Letter) → alike v u ≡ true → v ≡ u
-alike_same v u e = sym (letter_back v) ∙ ap letter_of (eqb-true (number v) (number u) e) ∙ letter_back u
+alike_same v u e = grind arith
 
 pub alike_self : (u : Letter) → alike u u ≡ true
-alike_self L.Requester = refl
-alike_self L.Resource = refl
-alike_self L.A = refl
-alike_self L.B = refl
+alike_self u = grind arith
 
 or_other : (a b : Bool) → a ≡ false → (a || b) ≡ true → b ≡ true
-or_other true b e h = absurd (true≢false e)
-or_other false b e h = h
+or_other a b e h = grind arith
 
 set_there : (s : Letter → Bool) (v u : Letter) → alike v u ≡ true → s u ≡ true → s v ≡ true
 set_there s v u e h = ap s (alike_same v u e) ∙ h

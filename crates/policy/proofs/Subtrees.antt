@@ -1,5 +1,5 @@
 -- A tree by its first word and the trees under it.
-use Rattle.std.proofs.Common.{◌≡◌, ℕ, suc, ◌+◌, ◌<◌, List, [], ◌∷◌, ◌++◌, length, get_or, drop, Some, None, Option, sym, refl, ap, ◌∙◌, inl, inr, append_assoc, append-nil, arith, length-append, length-drop}
+use Rattle.std.proofs.Common.{◌≡◌, ℕ, suc, ◌+◌, ◌<◌, List, [], ◌∷◌, ◌++◌, length, get_or, drop, sym, refl, ap, ◌∙◌, inl, inr, append_assoc, append-nil, arith, length-append, length-drop}
 use Rattle.std.proofs.lemmas.List.{drop_more, drop-drop, drop_at}
 use Rattle.policy_words.specs.Due.{paths_of, formulas_of}
 use Rattle.policy_words.specs.Tree.Formula.{is, same, has, neg, both, either, at_letter, at_name, bind, some}
@@ -44,40 +44,14 @@ abbrev pub enter_all : ℕ → List Tree → List Entry
 enter_all k [] = []
 enter_all k (t ∷ ts) = enter k t ++ enter_all (k + length (write t)) ts
 
--- the place of the second operand, where the word is at k
-abbrev pub second_by : ℕ → List Tree → Option ℕ
-second_by k [] = None
-second_by k (t ∷ []) = None
-second_by k (t ∷ u ∷ ts) = Some (k + 1 + length (write t))
-
-pub a_second : (k : ℕ) (ts : List Tree) → length ts ≡ 2 → second_by k ts ≡ Some (k + 1 + length (write (kid_at ts 0)))
-a_second k [] e = absurd (omega arith)
-a_second k (t ∷ []) e = absurd (omega arith)
-a_second k (t ∷ u ∷ ts) e = refl
-
+-- a tree's words and entries by its first word and its operands
 pub record Node (t : Tree) : Type 0 where
   pub writes : write t ≡ root t ∷ write_all (kids t)
   pub count : length (kids t) ≡ paths_of (root t) + formulas_of (root t)
   pub enters : (k : ℕ) → enter k t ≡ head k t ∷ enter_all (k + 1) (kids t)
-  pub word : (k : ℕ) → (head k t).word ≡ root t
-  pub second : (k : ℕ) → (head k t).second ≡ second_by k (kids t)
 
 pub node : (t : Tree) → Node t
-node (inl (is n)) = record { writes = refl; count = refl; enters = λ k. refl; word = λ k. refl; second = λ k. refl }
-node (inl (same u)) = record { writes = refl; count = refl; enters = λ k. refl; word = λ k. refl; second = λ k. refl }
-node (inl (has m)) = record { writes = refl; count = refl; enters = λ k. refl; word = λ k. refl; second = λ k. refl }
-node (inl (neg f)) = record { writes = simp append-nil; count = refl; enters = λ k. simp append-nil; word = λ k. refl; second = λ k. refl }
-node (inl (both f g)) = record { writes = simp append-nil; count = refl; enters = λ k. simp append-nil; word = λ k. refl; second = λ k. refl }
-node (inl (either f g)) = record { writes = simp append-nil; count = refl; enters = λ k. simp append-nil; word = λ k. refl; second = λ k. refl }
-node (inl (at_letter u f)) = record { writes = simp append-nil; count = refl; enters = λ k. simp append-nil; word = λ k. refl; second = λ k. refl }
-node (inl (at_name n f)) = record { writes = simp append-nil; count = refl; enters = λ k. simp append-nil; word = λ k. refl; second = λ k. refl }
-node (inl (bind u f)) = record { writes = simp append-nil; count = refl; enters = λ k. simp append-nil; word = λ k. refl; second = λ k. refl }
-node (inl (some p f)) = record { writes = simp append-nil; count = refl; enters = λ k. simp append-nil; word = λ k. refl; second = λ k. refl }
-node (inr (forward l)) = record { writes = refl; count = refl; enters = λ k. refl; word = λ k. refl; second = λ k. refl }
-node (inr (backward l)) = record { writes = refl; count = refl; enters = λ k. refl; word = λ k. refl; second = λ k. refl }
-node (inr (seq p t)) = record { writes = simp append-nil; count = refl; enters = λ k. simp append-nil; word = λ k. refl; second = λ k. refl }
-node (inr (plus p)) = record { writes = simp append-nil; count = refl; enters = λ k. simp append-nil; word = λ k. refl; second = λ k. refl }
-node (inr stay) = record { writes = refl; count = refl; enters = λ k. refl; word = λ k. refl; second = λ k. refl }
+node t = record { writes = grind (arith, append-nil); count = grind arith; enters = λ k. grind (arith, append-nil) }
 
 -- the table ws has the tree t at the place i, and then the words rest
 abbrev pub Has : List Word → ℕ → Tree → List Word → Type 0
@@ -90,7 +64,7 @@ long t ks e = ap length (node t).writes ∙ ap (λ l. suc (length (write_all l))
 pub inside : (ws : List Word) (i : ℕ) (t : Tree) (rest : List Word) → Has ws i t rest → i < length ws
 inside ws i t rest h = omega (arith, length-drop i ws, ap length h, length-append (write t) rest, long t (kids t) refl)
 
--- of a tree in the table: the word at its place is its first, its operands begin at the next, and the word tells their number
+-- of a tree in the table: the word at its place is its first and tells the number of its operands, which begin at the next
 pub record Rooted (ws : List Word) (i : ℕ) (w : Word) (t : Tree) (rest : List Word) : Type 0 where
   pub first : w ≡ root t
   pub then : drop (i + 1) ws ≡ write_all (kids t) ++ rest

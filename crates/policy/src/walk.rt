@@ -46,7 +46,7 @@ impl<'a> Node<'a> {
     }
 
     // The operands of the word that are formulas.
-    #[tactic(auto, using(crate::proofs::Walks::within))]
+    #[tactic(auto, using(crate::proofs::Walks::within, crate::proofs::Walks::second_later, crate::proofs::Walks::second_stands, crate::proofs::Walks::next_stands))]
     fn operands(self) -> Operands<'a>
         ensures operands { (f : Formula) → Leads self.entry f → AreOperands self.entry (operands f) result }
         ensures fewer { HaveFewer self.entry result }
