@@ -1,4 +1,5 @@
-// Rows of bits, 64 to a word: bit i is bit i % 64 of the word i / 64, from the lowest on.
+// Rows of bits, 64 to a word: bit i is bit i % 64 of the word i / 64, from the lowest on. A row is a slice of
+// words, lent with the number of a bit as slices are with an index.
 ghost use Rattle.std.specs.Prelude.{◌≡◌, ℕ, ◌*◌, ◌<◌, ◌≤◌, not, length, if◌then◌else◌, nat_eq, slice_index};
 ghost use Rattle.bits.specs.Bits.{bit_set};
 

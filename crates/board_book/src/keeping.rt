@@ -52,7 +52,7 @@ impl Reading for BoardBook {
 
     fn next(&self, of: Neighbours, at: u8) -> Result<Option<u8>, RangeRefusal> {
         self.counts().check_next(of, at)?;
-        // two ways and no closure: a word's bits at once, or bit by bit
+        // two ways: forward the bits stand side by side and are read as one word, backward one by one
         Ok(match of.direction {
             Direction::Forward => self.next_to(of, at),
             Direction::Backward => self.next_from(of, at),

@@ -33,8 +33,8 @@ pub trait Reading {
     fn has_mark(&self, fact: MarkFact) -> Result<bool, RangeRefusal>
         ensures { MarkTold (meaning self.now) fact result };
 
-    // The lowest of the neighbours that is not below `at`. This stands beside them and not in them, since
-    // who goes through the neighbours of a name asks for the same ones again, each time from higher on.
+    // The lowest of the neighbours that is not below `at`. The lowest name that may be told is no part of
+    // the neighbours: to go through them is to ask for the same ones again, each time from a higher name on.
     fn next(&self, of: Neighbours, at: u8) -> Result<Option<u8>, RangeRefusal>
         ensures { Next (meaning self.now) of at result };
 
@@ -43,8 +43,8 @@ pub trait Reading {
 
 // A book that can be altered too.
 pub trait Keeping: Reading {
-    // What a make keeps true of itself from call to call, where it has more to tell than its meaning. Each
-    // call says that it keeps it, since a ghost field can't speak of the meaning of a type parameter.
+    // What a make keeps true of itself from call to call, where it has more to tell than its meaning: a promise
+    // that code over any make hands on, so that each call says that it keeps it.
     ghost holds: { Self → Type 0 } = { λ _. Unit {0} };
 
     // How many ties the book can hold.

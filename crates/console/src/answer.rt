@@ -7,7 +7,8 @@ use std::alloc::AllocError;
 use std::io::Write;
 use std::{fmt, io};
 
-// What a line is answered where it is not refused.
+// What a line is answered where it is not refused. A book's reply has the number of a name, and this its word: one
+// generic type for both would need a map with a contract, and a function that writes it all the same.
 #[derive(Clone, Copy)]
 pub enum Answer<'a> {
     Done,

@@ -4,7 +4,8 @@ use requests::number::{byte_number, decimal};
 use roll::list::List;
 use text::pieces::Pieces;
 
-// What is to be done about a tie or a mark fact. An enum, since the gate refuses functions that are kept.
+// What is to be done about a tie or a mark fact. An enum, since the gate refuses a function that hands out one that
+// it made.
 #[derive(Clone, Copy, Debug, PartialEq, Eq)]
 pub enum Verb {
     // put it into the book: enter, set
@@ -50,10 +51,10 @@ impl<'a> Order<'a> {
         if line.is_empty() || line.starts_with(b"--") {
             return Ok(None);
         }
-        match of_text(line) {
-            Some(order) => Ok(Some(order)),
-            None => Ok(Some(of_words(line).ok_or(UnknownOrder)?)),
-        }
+        of_text(line)
+            .or_else(|| of_words(line))
+            .ok_or(UnknownOrder)
+            .map(Some)
     }
 }
 
@@ -111,6 +112,8 @@ fn end(words: Pieces<'_>) -> Option<()> {
     words.is_over().then_some(())
 }
 
+// The words are taken one after another, here and below, and not by a count as a const parameter: the toolchain does
+// not take an array of references in a case of an enum.
 fn of_tie<'a>(verb: Verb, mut words: Pieces<'a>) -> Option<Order<'a>> {
     let label = words.next()?;
     let from = words.next()?;

@@ -49,7 +49,7 @@ impl Texts {
     }
 }
 
-// A book of either make. An enum, since the gate refuses values of an open kind that are kept.
+// A book of either make. An enum, since the gate refuses a function that hands out a `dyn` value that it made.
 #[derive(Drop)]
 enum Book {
     List(ListBook),

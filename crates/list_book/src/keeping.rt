@@ -10,7 +10,8 @@ use book::refusal::{EnterRefusal, RangeRefusal};
 use book::tie::Tie;
 
 // The calls on mark facts hand over to the mark board, here and in the other make, a line each: a book made
-// of a mark board and a store of ties would need a third face with the laws of both, to save these lines.
+// of a mark board and a store of ties would need a third trait with the laws of both, to save these lines. Setting
+// and lifting are two calls and not one with a value, since each says here what becomes of the row.
 // Each call says what the row is after it (`row`): entering and striking write at one place below the
 // capacity, and only where they alter the ties; no other call writes.
 impl Keeping for ListBook {

@@ -1,10 +1,10 @@
 ghost use Rattle.std.specs.Prelude.{◌≡◌, not, ◌&&◌, ◌||◌, if◌then◌else◌};
-ghost use Rattle.policy_words.specs.declared.word.Letter.{Letter as Sign};
+ghost use Rattle.policy_words.specs.declared.word.Letter.{Letter as PolicyLetter};
 ghost use Rattle.policy.specs.Letters.{has, alike};
 
 use policy_words::word::Letter;
 
-// A set of letters.
+// A set of letters, a field for each: the toolchain's `bitflags` has contracts only with an impl by hand.
 #[derive(Clone, Copy, Debug, PartialEq, Eq)]
 pub struct Letters {
     pub requester: bool,
@@ -44,7 +44,7 @@ impl Letters {
 
     // The letters of both sets.
     pub fn union(self, other: Letters) -> Letters
-        ensures { (v : Sign) → has v result ≡ (has v self || has v other) }
+        ensures { (v : PolicyLetter) → has v result ≡ (has v self || has v other) }
     {
         Letters {
             requester: self.requester || other.requester,
@@ -56,7 +56,7 @@ impl Letters {
 
     // The set with the letter in it, or with the letter not in it.
     fn put(self, u: Letter, value: bool) -> Letters
-        ensures { (v : Sign) → has v result ≡ (if alike v u then value else has v self) }
+        ensures { (v : PolicyLetter) → has v result ≡ (if alike v u then value else has v self) }
     {
         match u {
             Letter::Requester => Letters {
@@ -74,14 +74,14 @@ impl Letters {
 
     // The set with one letter more.
     pub fn with(self, u: Letter) -> Letters
-        ensures { (v : Sign) → has v result ≡ (alike v u || has v self) }
+        ensures { (v : PolicyLetter) → has v result ≡ (alike v u || has v self) }
     {
         self.put(u, true)
     }
 
     // The set without one letter.
     pub fn without(self, u: Letter) -> Letters
-        ensures { (v : Sign) → has v result ≡ (not (alike v u) && has v self) }
+        ensures { (v : PolicyLetter) → has v result ≡ (not (alike v u) && has v self) }
     {
         self.put(u, false)
     }

@@ -1,7 +1,7 @@
 // Walks over a table, from a word to its operands: each operand's place is above the word's.
 ghost use Rattle.std.specs.Prelude.{◌≡◌, true, false, MatchOption};
 ghost use Rattle.policy_words.specs.Tree.{Formula, root};
-ghost use Rattle.policy_words.specs.declared.word.Letter.{Letter as Sign};
+ghost use Rattle.policy_words.specs.declared.word.Letter.{Letter as PolicyLetter};
 ghost use Rattle.policy.specs.Letters.{has};
 ghost use Rattle.policy.specs.Free.{free, later, first_loose};
 ghost use Rattle.policy.specs.Anchor.{first_stray};
@@ -15,7 +15,7 @@ use policy_words::word::{Letter, Word};
 
 // What a word makes of the letters left free in its operands.
 fn left_free(w: Word, inner: Letters) -> Letters
-    ensures { (v : Sign) → has v result ≡ free_by v w (has v inner) }
+    ensures { (v : PolicyLetter) → has v result ≡ free_by v w (has v inner) }
 {
     match w {
         Word::Letter(v) | Word::AtLetter(v) => inner.with(v),
@@ -27,7 +27,7 @@ fn left_free(w: Word, inner: Letters) -> Letters
 // The letters that are set in the operands of the word, or none where the word names a letter that
 // is not set.
 fn set_under(w: Word, set: Letters) -> Option<Letters>
-    ensures { MatchOption result (settled (λ v. has v set) w ≡ false) (λ inner. (settled (λ v. has v set) w ≡ true) × ((v : Sign) → has v inner ≡ set_by w (λ u. has u set) v)) }
+    ensures { MatchOption result (settled (λ v. has v set) w ≡ false) (λ inner. (settled (λ v. has v set) w ≡ true) × ((v : PolicyLetter) → has v inner ≡ set_by w (λ u. has u set) v)) }
 {
     match w {
         Word::Letter(v) | Word::AtLetter(v) => set.contains(v).then_some(set),
@@ -72,7 +72,7 @@ impl<'a> Node<'a> {
 
     // The letters that the formula leaves free: the same question put to its operands.
     pub fn free_letters(self) -> Letters
-        ensures { (f : Formula) → Leads self.entry f → (v : Sign) → has v result ≡ free v f }
+        ensures { (f : Formula) → Leads self.entry f → (v : PolicyLetter) → has v result ≡ free v f }
     {
         let inner = match self.operands() {
             Operands::Leaf => Letters::NONE,
@@ -84,8 +84,8 @@ impl<'a> Node<'a> {
 
     // The place of the first loose word of the formula, where the letters of `set` are set. This and
     // `first_stray` are two searches: one for both would take a trait with laws and an enum of its
-    // steps, to save one match. The second operand is asked in a match and not in `or_else`, since
-    // of a closure in a cycle of calls nothing is known.
+    // steps, to save one match. The second operand is asked in a match and not in `or_else`, whose
+    // closure, being in a cycle of calls, would need the function's clause again.
     pub fn first_loose(self, set: Letters) -> Option<usize>
         ensures { (f : Formula) → Leads self.entry f → result ≡ later self.entry.at (first_loose (λ v. has v set) f) }
     {

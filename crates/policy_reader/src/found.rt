@@ -43,8 +43,8 @@ pub fn find_words<'a>(roll: &Roll, text: &'a [u8]) -> Found<'a>
 }
 
 impl<'a> Found<'a> {
-    // The byte at which word k of the text begins, where it has such a word, as it has wherever this is
-    // asked; an option would be one more case that cannot come.
+    // The byte at which word k of the text begins, where it has such a word. Of no other k does the
+    // contract speak: to require that there is one, each method that asks this would have to.
     pub fn start_of(&self, k: usize) -> usize
         ensures { k < length (text_words self.now.text.now) → result ≡ start_of k (text_words self.now.text.now) }
     {

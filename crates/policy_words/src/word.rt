@@ -18,11 +18,11 @@ pub struct NotALetter;
 
 // The letter whose text the bytes are.
 impl TryFrom<&[u8]> for Letter {
-    ghost use Rattle.policy_words.specs.declared.word.Letter.{Letter as Sign};
+    ghost use Rattle.policy_words.specs.declared.word.Letter.{Letter as PolicyLetter};
 
     type Error = NotALetter;
 
-    ghost try_from_gives = { λ bs r. MatchResult r (λ v. bs.now ≡ letter_text v) (λ _. (v : Sign) → bs.now ≢ letter_text v) };
+    ghost try_from_gives = { λ bs r. MatchResult r (λ v. bs.now ≡ letter_text v) (λ _. (v : PolicyLetter) → bs.now ≢ letter_text v) };
 
     fn try_from(bytes: &[u8]) -> Result<Letter, NotALetter> {
         match bytes {

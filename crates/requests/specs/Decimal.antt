@@ -1,11 +1,11 @@
 -- Decimal numbers as they are written.
-use Rattle.std.specs.Prelude.{ℕ, ◌+◌, ◌-◌, ◌*◌, min, Bool, true, cond, ◌&&◌, List, [], ◌∷◌, Some, None, Option}
+use Rattle.std.specs.Prelude.{ℕ, ◌+◌, ◌-◌, ◌*◌, min, Bool, cond, List, [], ◌∷◌, Some, None, Option}
 use Rattle.std.specs.Char.{is_ascii_digit}
+use Rattle.std.specs.List.{list_all}
 
 -- every byte is a digit, 0 to 9
 abbrev pub digits : List ℕ → Bool
-digits [] = true
-digits (b ∷ bs) = is_ascii_digit b && digits bs
+digits bs = list_all is_ascii_digit bs
 
 -- the number that digits write behind a number that is written already
 abbrev pub value : ℕ → List ℕ → ℕ

@@ -58,7 +58,8 @@ pub fn perform<B: Keeping>(book: &mut B, request: Request) -> Result<Reply, Ente
     })
 }
 
-// Makes an altering call, as a list of one.
+// Makes an altering call, as a list of one, and not by `step`, so that the law of lists of calls stands on a call
+// that programs make.
 fn alter<B: Keeping>(book: &mut B, call: Call) -> Answer
     ensures answer { result ≡ answer (B.meaning book.old) call }
     ensures after { B.meaning book.new ≡ after (B.meaning book.old) call }

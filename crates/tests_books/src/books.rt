@@ -22,7 +22,7 @@ fn board(heap: Global, counts: Counts, words: usize) -> Result<BoardBook, AllocE
 
 // Names, labels, marks and words, and the number of the refusal that a check for a list book and for a
 // board of so many words gives, if it refuses.
-const LIMITS: [((u8, u8, u8, usize), Option<u8>, Option<u8>); 12] = [
+pub const LIMITS: [((u8, u8, u8, usize), Option<u8>, Option<u8>); 12] = [
     ((1, 0, 0, 0), None, None),
     ((64, 16, 16, 1024), None, None),
     ((64, 16, 16, 1023), None, Some(14)),

@@ -16,7 +16,7 @@ const WORDS_16: &[u8] = b"l0 l1 l2 l3 l4 l5 l6 l7 l8 l9 l10 l11 l12 l13 l14 l15"
 const WORDS_17: &[u8] = b"l0 l1 l2 l3 l4 l5 l6 l7 l8 l9 l10 l11 l12 l13 l14 l15 l16";
 
 // The texts of names, labels and marks.
-type Texts = (&'static [u8], &'static [u8], &'static [u8]);
+pub type Texts = (&'static [u8], &'static [u8], &'static [u8]);
 
 fn read(texts: &Texts) -> Result<Roll<'static>, RollFault> {
     let (names, labels, marks) = *texts;
@@ -50,7 +50,7 @@ pub fn faulty_rolls() -> usize {
 }
 
 // Texts, and how many names, labels and marks the roll has that they make.
-const ROLLS: [(Texts, (u8, u8, u8)); 6] = [
+pub const ROLLS: [(Texts, (u8, u8, u8)); 6] = [
     ((b"anna", b"", b""), (1, 0, 0)),
     (
         (b"anna bruno lot7 page7", b"grew buys covers", b"tasted"),
@@ -63,7 +63,7 @@ const ROLLS: [(Texts, (u8, u8, u8)); 6] = [
 ];
 
 // Texts that make no roll, with the number of the fault, that of the list and the place that are told.
-const FAULTY: [(Texts, (u8, u8, Option<usize>)); 23] = [
+pub const FAULTY: [(Texts, (u8, u8, Option<usize>)); 23] = [
     ((b"", b"", b""), (20, 0, None)),
     ((b" ", b"", b""), (5, 0, Some(0))),
     ((b"anna ", b"", b""), (5, 0, Some(5))),

@@ -1,6 +1,6 @@
 ghost use Rattle.std.specs.Prelude.{◌≡◌, Ok, Err, MatchOption, MatchResult};
 ghost use Rattle.policy_words.specs.Tree.{Formula, EachAllowed};
-ghost use Rattle.policy_words.specs.declared.word.Letter.{Letter as Sign};
+ghost use Rattle.policy_words.specs.declared.word.Letter.{Letter as PolicyLetter};
 ghost use Rattle.policy.specs.Letters.{has};
 ghost use Rattle.policy.specs.Table.{Stands};
 ghost use Rattle.policy.specs.Free.{free, First, ClosedIsFree};
@@ -76,7 +76,7 @@ impl Policy {
 
     // The letters that the policy leaves free.
     pub fn free_letters(&self) -> Letters
-        ensures { (f : Formula) × Means self.now f × ((v : Sign) → has v result ≡ free v f) }
+        ensures { (f : Formula) × Means self.now f × ((v : PolicyLetter) → has v result ≡ free v f) }
     {
         let formula = Node {
             table: self.table(),
