@@ -73,7 +73,7 @@ pub fn read(roll: &Roll, text: &[u8]) -> Result<Policy, PolicyFault>
     ensures counted { (f : Formula) → Told roll.now text.now (Ok f) → EachBelow (counts_of roll.now) (words f) }
 {
     let found = find_words(roll, text);
-    match Policy::of(&found.words) {
+    match Policy::try_from(found.words.as_slice()) {
         Ok(policy) => {
             found.finished()?;
             Ok(policy)

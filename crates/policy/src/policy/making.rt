@@ -24,12 +24,14 @@ fn first_forbidden(words: &[Word]) -> Option<usize>
     words.iter().position(|w| !w.is_allowed())
 }
 
-impl Policy {
-    // The policy of these words, or why they make none: the first word that goes wrong as a
-    // formula's, then a number, then a loose letter, then the anchors.
-    pub fn of(words: &[Word]) -> Result<Policy, WordsFault>
-        ensures { MatchResult result (λ p. ((f : Formula) × Makes words.now (Ok f) × Means p f)) (λ e. Makes words.now (Err e)) }
-    {
+// The policy of these words, or why they make none: the first word that goes wrong as a formula's,
+// then a number, then a loose letter, then the anchors.
+impl TryFrom<&[Word]> for Policy {
+    type Error = WordsFault;
+
+    ghost try_from_gives = { λ ws r. MatchResult r (λ p. ((f : Formula) × Makes ws.now (Ok f) × Means p f)) (λ e. Makes ws.now (Err e)) };
+
+    fn try_from(words: &[Word]) -> Result<Policy, WordsFault> {
         shape(words)?;
         if let Some(k) = first_forbidden(words) {
             return Err(WordsFault::Number(k));
@@ -48,7 +50,9 @@ impl Policy {
         }
         Ok(Policy { table, len })
     }
+}
 
+impl Policy {
     // The built-in policy `! @?q ?q`.
     pub fn built_in() -> Policy
         ensures { Means result built_in }

@@ -4,8 +4,8 @@ use Rattle.policy.specs.Letters.{given}
 use Rattle.policy.specs.Proper.{Proper}
 use Rattle.policy.proofs.Places.{tells_loose, tells_stray, nowhere_anchored}
 use Rattle.policy.proofs.Making.{Ready, ready, from_start, loose_given}
-use Rattle.policy.proofs.policy.Policy.of.Goals as goal
-use Rattle.policy.proofs.policy.Policy.of.Goals.{After-table-table, In_default-first_stray}
+use Rattle.policy.proofs.policy.making.PolicyTryFromRefSliceWord.try_from.Goals as goal
+use Rattle.policy.proofs.policy.making.PolicyTryFromRefSliceWord.try_from.Goals.{After-table-table, In_default-first_stray}
 
 made : (c : After-table-table) → Ready c.args.words.now c.table-table.result c.in_ok-shape.ensures.told.1.0
 made c = let w = c.in_ok-shape.ensures.told in ready _ _ w.1.0 w.1.1 w.0 c.table-table.ensures.long c.table-table.ensures.entries
