@@ -59,7 +59,7 @@ impl Words<'_> {
         Entry { word, second }
     }
 
-    // The table of the words.
+    // The table of the words, of fixed size as a policy is.
     pub fn table(&self) -> [Entry; 64]
         ensures long { length result ≡ 64 }
         ensures entries { (k : ℕ) → k < 64 → IsEntryAt self.now k (slice_index_or result k (plain (NameItem 0))) }

@@ -5,7 +5,8 @@ ghost use Rattle.policy.specs.Table.{Stands};
 
 use crate::entry::Entry;
 
-// The word at the place `at` of a table, from which on a formula stands there.
+// The word at the place `at` of a table, from which on a formula stands there. Which formula that is each
+// method's clause asks: as a model of the node it would be the table read back into a tree.
 #[derive(Clone, Copy)]
 pub struct Node<'a> {
     pub table: &'a [Entry],
