@@ -7,14 +7,11 @@ use std::alloc::AllocError;
 use std::io::Write;
 use std::{fmt, io};
 
-// What a line is answered where it is not refused. A book's reply has the number of a name, and this its word: one
-// generic type for both would need a map with a contract, and a function that writes it all the same.
+// What a line is answered where it is not refused.
 #[derive(Clone, Copy)]
 pub enum Answer<'a> {
-    Done,
-    Told(bool),
-    // the word of a name, or none
-    Name(Option<&'a [u8]>),
+    // a word of the console's own, or the word of a name
+    Word(&'a [u8]),
     Tally(Tally),
 }
 
@@ -35,10 +32,7 @@ impl Answer<'_> {
     // Adds the answer to the output.
     pub fn write_to(self, out: &mut impl Write) -> io::Result<()> {
         match self {
-            Answer::Done => out.write_all(b"ok"),
-            Answer::Told(true) => out.write_all(b"yes"),
-            Answer::Told(false) => out.write_all(b"no"),
-            Answer::Name(word) => out.write_all(word.unwrap_or(b"none")),
+            Answer::Word(word) => out.write_all(word),
             Answer::Tally(tally) => write_tally(tally, out),
         }
     }

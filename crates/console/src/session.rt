@@ -122,7 +122,7 @@ impl Session {
             }
             Order::Ask(question) => return Ok(Some(self.ask(question)?)),
         }
-        Ok(Some(Answer::Done))
+        Ok(Some(Answer::Word(b"ok")))
     }
 
     // Opens an empty book, under the roll of the next texts.
@@ -143,10 +143,12 @@ impl Session {
         let roll = open.texts.roll()?;
         let request = question.resolve(roll).map_err(Refusal::UnknownWord)?;
         Ok(match open.book.perform(request)? {
-            Reply::Done => Answer::Done,
-            Reply::Told(there) => Answer::Told(there),
+            Reply::Done => Answer::Word(b"ok"),
+            Reply::Told(true) => Answer::Word(b"yes"),
+            Reply::Told(false) => Answer::Word(b"no"),
             Reply::Name(name) => {
-                Answer::Name(name.and_then(|number| roll.word(List::Names, number)))
+                let word = name.and_then(|number| roll.word(List::Names, number));
+                Answer::Word(word.unwrap_or(b"none"))
             }
             Reply::Tally(tally) => Answer::Tally(tally),
         })
