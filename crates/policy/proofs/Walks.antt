@@ -18,7 +18,7 @@ use Rattle.policy.specs.declared.entry.Entry.{Entry}
 use Rattle.policy.specs.declared.node.Node.{Node}
 
 -- the entry of a formula's first word
-pub reads : (es : List Entry) (k : ℕ) (f : Formula) → Stands es k f → Reads es k (head k (inl f))
+reads : (es : List Entry) (k : ℕ) (f : Formula) → Stands es k f → Reads es k (head k (inl f))
 reads es k (is n) r = r
 reads es k (same v) r = r
 reads es k (has m) r = r
@@ -34,11 +34,8 @@ reads es k (some p f) r = r.0
 abbrev pub here : Node → Entry
 here n = get_or n.table.now n.at (plain (W.Name 0))
 
-pub below : (es : List Entry) (k : ℕ) (f : Formula) → Stands es k f → k < length es
-below es k f s = (reads es k f s).0
-
 pub within : (n : Node) → n.at < length n.table.now
-within n = ∥∥₁_elim n.formula le_prop (λ x. below n.table.now n.at x.0 x.1)
+within n = ∥∥₁_elim n.formula le_prop (λ x. (reads n.table.now n.at x.0 x.1).0)
 
 -- what a walk over the operands finds first
 abbrev pub first_in : (Formula → Option ℕ) → List (ℕ × Formula) → Option ℕ
