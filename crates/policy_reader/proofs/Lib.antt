@@ -1,3 +1,4 @@
+pub mod Limits
 pub mod Finding
 pub mod Telling
 pub mod OneWord

@@ -1,5 +1,5 @@
 // The words of a text, up to the first that is faulty by itself.
-ghost use Rattle.std.specs.Prelude.{◌≡◌, ◌<◌, length};
+ghost use Rattle.std.specs.Prelude.{◌≡◌, ◌<◌, length, []};
 ghost use Rattle.text.specs.Text.{words as text_words, start_of};
 ghost use Rattle.policy_reader.specs.Found.{Finds};
 
@@ -19,26 +19,32 @@ pub struct Found<'a> {
     pub stop: Result<Option<usize>, WordFault>,
 }
 
+// Fills empty words with those of the text up to its end, its 65th word or its first faulty one, and
+// tells which of these it came to.
+fn fill(
+    words: &mut ArrayVec<Word, 64>,
+    roll: &Roll,
+    text: &[u8],
+) -> Result<Option<usize>, WordFault>
+    requires { words.old.items ≡ [] }
+    ensures { Finds roll.now record { text = text.entry; words = words.new; stop = result } }
+{
+    for piece in Pieces::words(text) {
+        if words.is_full() {
+            return Ok(Some(piece.at));
+        }
+        words.push(read_word(roll, piece)?);
+    }
+    Ok(None)
+}
+
 // The words of the text up to its end, its 65th or its first faulty one.
 pub fn find_words<'a>(roll: &Roll, text: &'a [u8]) -> Found<'a>
     ensures text { result.text.now ≡ text.now }
     ensures found { Finds roll.now result }
 {
     let mut words = ArrayVec::new();
-    for piece in Pieces::words(text) {
-        if words.is_full() {
-            let stop = Ok(Some(piece.at));
-            return Found { text, words, stop };
-        }
-        match read_word(roll, piece) {
-            Ok(word) => words.push(word),
-            Err(fault) => {
-                let stop = Err(fault);
-                return Found { text, words, stop };
-            }
-        }
-    }
-    let stop = Ok(None);
+    let stop = fill(&mut words, roll, text);
     Found { text, words, stop }
 }
 

@@ -4,7 +4,7 @@ ghost use Rattle.text.specs.Word.{Fine};
 ghost use Rattle.policy_words.specs.Letters.{letter_text};
 ghost use Rattle.policy_words.specs.Tree.{Settable};
 ghost use Rattle.policy_reader.specs.Token.{sign, operand};
-ghost use Rattle.policy_reader.specs.Spell.{limit, Numbered, IsOperand, Spells, sign_of, bare, Listed, Wrong};
+ghost use Rattle.policy_reader.specs.Spell.{Numbered, IsOperand, Spells, sign_of, bare, Listed, Wrong};
 ghost use Rattle.policy_reader.specs.Operands.{IsFaultOf, ReadAs};
 
 use crate::fault::{Cause, WordFault};
@@ -14,16 +14,6 @@ use roll::list::List;
 use roll::roll::Roll;
 use text::pieces::Piece;
 use text::word::{check_word, is_plain};
-
-// How many words of a list a policy can name.
-fn limit_of(list: List) -> u8
-    ensures { result ≡ limit list }
-{
-    match list {
-        List::Names => 64,
-        List::Labels | List::Marks => 16,
-    }
-}
 
 impl<'a> Operand<'a> {
     // The word of a bare sign: it has no operand.
@@ -43,19 +33,19 @@ impl<'a> Operand<'a> {
     fn check(self) -> Result<(), WordFault>
         ensures { ReadAs false self.entry (λ _. Fine self.entry.bytes.now) result }
     {
-        match check_word(self.bytes) {
-            Ok(()) => Ok(()),
-            Err(cause) => Err(self.fault(cause.into())),
-        }
+        check_word(self.bytes).map_err(|cause| WordFault {
+            cause: cause.into(),
+            at: self.at,
+        })
     }
 
     // The number of an operand in its list.
+    #[tactic(auto, using(crate::proofs::Limits::number_read))]
     fn number_in(self, roll: &Roll, list: List) -> Result<u8, WordFault>
         ensures { ReadAs false self.entry (λ n. Numbered roll.now list self.entry.bytes.now n) result }
     {
         self.check()?;
         roll.find(list, self.bytes)
-            .filter(|n| *n < limit_of(list))
             .ok_or(self.fault(Cause::Unlisted))
     }
 
@@ -64,7 +54,8 @@ impl<'a> Operand<'a> {
         ensures { ReadAs false self.entry (λ v. self.entry.bytes.now ≡ letter_text v) result }
     {
         self.check()?;
-        Letter::try_from(self.bytes).or(Err(self.fault(Cause::Unlisted)))
+        let fault = self.fault(Cause::Unlisted);
+        Letter::try_from(self.bytes).map_err(|_| fault)
     }
 
     // The letter of an operand, where a `$` can set it.

@@ -1,7 +1,7 @@
 use Rattle.std.proofs.Common.{◌≡◌, ◌≤◌, length}
 use Rattle.policy_reader.specs.Told.{EachSpells}
 use Rattle.policy_reader.proofs.Finding.{bytes}
-use Rattle.policy_reader.proofs.found.find_words.Given as goal
+use Rattle.policy_reader.proofs.found.fill.Given as goal
 
 abbrev pub invariant-loop-piece : goal.invariant-loop-piece
 invariant-loop-piece l = record {
