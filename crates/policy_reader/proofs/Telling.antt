@@ -1,7 +1,6 @@
 -- From the words that were found to what is to be told.
 use Rattle.std.proofs.Common.{◌≡◌, ℕ, zero, suc, ◌<◌, List, [], ◌∷◌, length, get_or, take, Ok, Err, Result, Some, None, Option, sym, refl, ap, subst, arith, MatchResult}
 use Rattle.std.proofs.lemmas.List.{take_more, take_all, get_or-take, take-take}
-use Rattle.std.proofs.lemmas.Result.{MatchResult-weaker}
 use Rattle.std.proofs.lemmas.Slice.Zip.{AllZip-long}
 use Rattle.text.specs.Text.{words as text_words, start_of}
 use Rattle.text.specs.declared.word.WordFault.{WordFault}
@@ -93,27 +92,20 @@ module _ (r : Roll) (x : Found) (fd : Finds r x) where
   open_told (Ok (Some at)) s u = (length vs, vs, reach_all at s.0 s.2, s.1, u)
   open_told (Err f) s u = (length vs, vs, reach_all f.at s.0 s.2, s.1, u, s.3)
 
-  -- the fault of the words is to be told
-  fault_told : (e d : PolicyFault) → e ≡ d → Told r t (Err d) → Answered (Err e)
-  fault_told e d h told = to_err d (Err e) (ap Err h) told
+  shape_told : (f : ShapeFault) (res : Result Policy PolicyFault) → Makes vs (Err (F.Shape f)) → ShapeRefused x f res → Answered res
+  shape_told (S.Kind k) res m h =
+      to_err _ res (h (omega (arith, m.1, fd.within))) (k, take k vs, reach k m.1, omega (arith, m.1, fd.few), m.2, (get_or vs k (W.Name 0), word_spelled k m.1, λ b. m.3 (subst Begins (sym (take_more vs k (W.Name 0) m.1)) b)))
+  shape_told S.Short res m h = to_err _ res h (open_told x.stop fd.stops m.1)
+  shape_told (S.After k) res m h = to_err _ res (h (omega (arith, m.1, fd.within))) (k, take k vs, reach k m.1, omega (arith, m.1, fd.few), m.2)
+  shape_told S.TooMany res m h = absurd (omega (arith, m, fd.few))
 
-  after_told : (stop : Result (Option ℕ) (WordFault Cause)) → Stops r ws (length vs) stop → Whole vs → (e : PolicyFault) (Q : Type 0) → MatchResult (after_fault stop) (λ _. Q) (λ d. e ≡ d) → (length vs ≡ length ws → Q → Answered (Err e)) → Answered (Err e)
-  after_told stop s w e Q c over = whole_told stop s w (Err e) Q (MatchResult-weaker (after_fault stop) c (λ _ q. q) (λ d h. ap Err h)) over
-
-  shape_told : (f : ShapeFault) (e : PolicyFault) → Makes vs (Err (F.Shape f)) → ShapeRefused x f e → Answered (Err e)
-  shape_told (S.Kind k) e m h =
-      fault_told e _ (h (omega (arith, m.1, fd.within))) (k, take k vs, reach k m.1, omega (arith, m.1, fd.few), m.2, (get_or vs k (W.Name 0), word_spelled k m.1, λ b. m.3 (subst Begins (sym (take_more vs k (W.Name 0) m.1)) b)))
-  shape_told S.Short e m h = fault_told e _ h (open_told x.stop fd.stops m.1)
-  shape_told (S.After k) e m h = fault_told e _ (h (omega (arith, m.1, fd.within))) (k, take k vs, reach k m.1, omega (arith, m.1, fd.few), m.2)
-  shape_told S.TooMany e m h = absurd (omega (arith, m, fd.few))
-
-  pub refused_told : (f : WordsFault) (e : PolicyFault) → Makes vs (Err f) → Refused x f e → Answered (Err e)
-  refused_told (F.Shape s) e m h = shape_told s e m h
-  refused_told (F.Number k) e m h = let s = word_spelled k m.2.0.0 in absurd (m.2.0.1 (operand-allowed r _ s.0 s.2))
-  refused_told (F.Loose k) e m h = after_told x.stop fd.stops (m.0, m.1) e _ h (λ over q.
-      fault_told e _ (q (omega (arith, over, ap length m.1, loose_below m.0 given k m.4.0))) (m.0, k, spelled_end m.0 m.1 over, m.4, refl))
-  refused_told (F.Unanchored k) e m h = after_told x.stop fd.stops (m.0, m.1) e _ h (λ over q.
-      fault_told e _ (q (omega (arith, over, ap length m.1, stray_below m.0 k m.5.0))) (m.0, k, spelled_end m.0 m.1 over, m.4, m.5, refl))
+  pub refused_told : (f : WordsFault) (res : Result Policy PolicyFault) → Makes vs (Err f) → Refused x f res → Answered res
+  refused_told (F.Shape s) res m h = shape_told s res m h
+  refused_told (F.Number k) res m h = let s = word_spelled k m.2.0.0 in absurd (m.2.0.1 (operand-allowed r _ s.0 s.2))
+  refused_told (F.Loose k) res m h = whole_told x.stop fd.stops (m.0, m.1) res _ h (λ e q.
+      to_err _ res (q (omega (arith, e, ap length m.1, loose_below m.0 given k m.4.0))) (m.0, k, spelled_end m.0 m.1 e, m.4, refl))
+  refused_told (F.Unanchored k) res m h = whole_told x.stop fd.stops (m.0, m.1) res _ h (λ e q.
+      to_err _ res (q (omega (arith, e, ap length m.1, stray_below m.0 k m.5.0))) (m.0, k, spelled_end m.0 m.1 e, m.4, m.5, refl))
 
   pub made_told : (f : Formula) (p : Policy) (res : Result Policy PolicyFault) → Makes vs (Ok f) → Means p f → MatchResult (after_fault x.stop) (λ _. res ≡ Ok p) (λ e. res ≡ Err e) → Answered res
   made_told f p res m h c = whole_told x.stop fd.stops (f, m.0) res _ c (λ e q. (Ok f, subst (λ z. Gave z (Ok f)) (sym q) h, (spelled_end f m.0 e, m.1.closed, m.1.anchored)))

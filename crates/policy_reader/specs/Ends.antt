@@ -6,6 +6,7 @@ use Rattle.policy_words.specs.declared.shape.ShapeFault.{ShapeFault}
 use Rattle.policy_words.specs.declared.shape.ShapeFault.TheVariants as S
 use Rattle.policy.specs.declared.fault.WordsFault.{WordsFault}
 use Rattle.policy.specs.declared.fault.WordsFault.TheVariants as F
+use Rattle.policy.specs.declared.policy.Policy.{Policy}
 use Rattle.policy_reader.specs.declared.fault.Cause.{Cause}
 use Rattle.policy_reader.specs.declared.fault.PolicyFault.{PolicyFault}
 use Rattle.policy_reader.specs.declared.fault.PolicyFault.TheVariants as P
@@ -23,20 +24,20 @@ short_fault n (Ok None) = P.Short n
 short_fault n (Ok (Some at)) = P.TooMany at
 short_fault n (Err f) = P.Word f
 
--- the fault e is P at the byte at which word k of the text begins, where it has such a word
-abbrev pub FaultAt : Found → ℕ → (ℕ → PolicyFault) → PolicyFault → Type 0
-FaultAt x k P e = k < length (text_words x.text.now) → e ≡ P (start_of k (text_words x.text.now))
+-- the fault P at the byte at which word k of the text begins, where it has such a word
+abbrev pub FaultAt : Found → ℕ → (ℕ → PolicyFault) → Result Policy PolicyFault → Type 0
+FaultAt x k P res = k < length (text_words x.text.now) → res ≡ Err (P (start_of k (text_words x.text.now)))
 
--- the fault e is that of words that make no formula
-abbrev pub ShapeRefused : Found → ShapeFault → PolicyFault → Type 0
-ShapeRefused x (S.Kind k) e = FaultAt x k P.Kind e
-ShapeRefused x S.Short e = e ≡ short_fault (length x.text.now) x.stop
-ShapeRefused x (S.After k) e = FaultAt x k P.After e
-ShapeRefused x S.TooMany e = Unit {0}
+-- the answer for words that make no formula
+abbrev pub ShapeRefused : Found → ShapeFault → Result Policy PolicyFault → Type 0
+ShapeRefused x (S.Kind k) res = FaultAt x k P.Kind res
+ShapeRefused x S.Short res = res ≡ Err (short_fault (length x.text.now) x.stop)
+ShapeRefused x (S.After k) res = FaultAt x k P.After res
+ShapeRefused x S.TooMany res = Unit {0}
 
--- the fault e is that of words that make no policy
-abbrev pub Refused : Found → WordsFault → PolicyFault → Type 0
-Refused x (F.Shape s) e = ShapeRefused x s e
-Refused x (F.Number k) e = Unit {0}
-Refused x (F.Loose k) e = MatchResult (after_fault x.stop) (λ _. FaultAt x k P.Loose e) (λ after. e ≡ after)
-Refused x (F.Unanchored k) e = MatchResult (after_fault x.stop) (λ _. FaultAt x k P.Unanchored e) (λ after. e ≡ after)
+-- the answer for words that make no policy
+abbrev pub Refused : Found → WordsFault → Result Policy PolicyFault → Type 0
+Refused x (F.Shape s) res = ShapeRefused x s res
+Refused x (F.Number k) res = Unit {0}
+Refused x (F.Loose k) res = MatchResult (after_fault x.stop) (λ _. FaultAt x k P.Loose res) (λ e. res ≡ Err e)
+Refused x (F.Unanchored k) res = MatchResult (after_fault x.stop) (λ _. FaultAt x k P.Unanchored res) (λ e. res ≡ Err e)

@@ -1,4 +1,4 @@
-ghost use Rattle.std.specs.Prelude.{◌≡◌, length, Ok, Result as Outcome};
+ghost use Rattle.std.specs.Prelude.{◌≡◌, length, Ok, Err, Result as Outcome};
 ghost use Rattle.roll.specs.Rolls.{counts_of};
 ghost use Rattle.policy_words.specs.Tree.{Formula, words};
 ghost use Rattle.policy_reader.specs.Ends.{after_fault, short_fault, ShapeRefused, Refused};
@@ -23,39 +23,44 @@ impl<'a> Found<'a> {
         }
     }
 
-    // Why a text is refused whose formula is not finished.
-    fn short(&self) -> PolicyFault
-        ensures { result ≡ short_fault (length self.now.text.now) self.now.stop }
+    // Refuses a text whose formula is not finished. This and the next two give a result that is always an
+    // error, so that a word fault passes into a policy fault whole, by `?`.
+    fn short(&self) -> Result<Policy, PolicyFault>
+        ensures { result ≡ Err (short_fault (length self.now.text.now) self.now.stop) }
     {
-        match self.stop {
-            Ok(None) => PolicyFault::Short(self.text.len()),
-            Ok(Some(at)) => PolicyFault::TooMany(at),
-            Err(fault) => fault.into(),
+        match self.stop? {
+            None => Err(PolicyFault::Short(self.text.len())),
+            Some(at) => Err(PolicyFault::TooMany(at)),
         }
     }
 
-    // Why a text is refused whose words make no formula; they are never more than 64.
-    fn misshapen(&self, fault: ShapeFault) -> PolicyFault
+    // Refuses a text whose words make no formula; they are never more than 64.
+    fn misshapen(&self, fault: ShapeFault) -> Result<Policy, PolicyFault>
         ensures { ShapeRefused self.now fault result }
     {
         match fault {
-            ShapeFault::Kind(k) => PolicyFault::Kind(self.start_of(k)),
-            ShapeFault::After(k) => PolicyFault::After(self.start_of(k)),
+            ShapeFault::Kind(k) => Err(PolicyFault::Kind(self.start_of(k))),
+            ShapeFault::After(k) => Err(PolicyFault::After(self.start_of(k))),
             ShapeFault::Short | ShapeFault::TooMany => self.short(),
         }
     }
 
-    // Why a text is refused whose words make no policy; a word that was read has a number that it can
-    // have. Where the formula is finished, what comes after it is told before its letters and anchors.
-    fn refused(&self, fault: WordsFault) -> PolicyFault
+    // Refuses a text whose words make no policy; a word that was read has a number that it can
+    // have.
+    fn refused(&self, fault: WordsFault) -> Result<Policy, PolicyFault>
         ensures { Refused self.now fault result }
     {
-        let fault = match fault {
-            WordsFault::Shape(shape) => return self.misshapen(shape),
-            WordsFault::Number(k) | WordsFault::Loose(k) => PolicyFault::Loose(self.start_of(k)),
-            WordsFault::Unanchored(k) => PolicyFault::Unanchored(self.start_of(k)),
-        };
-        self.finished().err().unwrap_or(fault)
+        match fault {
+            WordsFault::Shape(shape) => self.misshapen(shape),
+            WordsFault::Number(k) | WordsFault::Loose(k) => {
+                self.finished()?;
+                Err(PolicyFault::Loose(self.start_of(k)))
+            }
+            WordsFault::Unanchored(k) => {
+                self.finished()?;
+                Err(PolicyFault::Unanchored(self.start_of(k)))
+            }
+        }
     }
 }
 
@@ -74,6 +79,6 @@ pub fn read(roll: &Roll, text: &[u8]) -> Result<Policy, PolicyFault>
             found.finished()?;
             Ok(policy)
         }
-        Err(fault) => Err(found.refused(fault)),
+        Err(fault) => found.refused(fault),
     }
 }

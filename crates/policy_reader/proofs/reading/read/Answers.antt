@@ -30,5 +30,5 @@ pub returns-in-Err : goal.returns-in-Err
 returns-in-Err c =
     let x = c.find_words-found.result in
     let found = c.find_words-found.ensures in
-    promised c.args.roll.now x.text.now c.args.text.now found.text (Err c.refused.result)
+    promised c.args.roll.now x.text.now c.args.text.now found.text c.refused.result
     (refused_told c.args.roll.now x found.found c.in-Err.fault c.refused.result (subst (λ l. Makes l (Err c.in-Err.fault)) c.as_slice.ensures.value c.in-Err.ensures) c.refused.ensures)
