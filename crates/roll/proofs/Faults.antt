@@ -1,9 +1,11 @@
 -- Faults of lists and rolls: the functions and what they mean.
+use mathlib.Core.List.{cons≢nil}
 use Rattle.std.proofs.Common.{◌≡◌, ℕ, zero, suc, ◌+◌, ◌<◌, ◌≤◌, min, Bool, true, false, cond, not, ◌&&◌, leb, ◌⊎◌, ◌≢◌, List as Seq, [], ◌∷◌, length, get_or, take, All, is_none, is_err, Some, None, Ok, Err, Decides, Option, sym, refl, ap, ◌∙◌, subst, inl, inr, add-zero, arith, MatchOption}
 use Rattle.std.proofs.lemmas.List.{take_all, get_or_default}
 use Rattle.std.proofs.lemmas.List.Elements.{All-nil, All-cons, All-head, All-tail}
 use Rattle.std.proofs.lemmas.Bool.{le-leb, leb-true, and_parts, and_from, false≢true, not-false, false_from_ne_true}
 use Rattle.std.proofs.lemmas.Bool.Decides.{Decides-and}
+use Rattle.std.proofs.lemmas.Option.{none-some, same_Some}
 use Rattle.book.specs.Limits.{Within, within, checked}
 use Rattle.book.specs.declared.counts.Counts.{Counts}
 use Rattle.book.specs.declared.counts.CountRefusal.TheVariants.{OutsideLimits}
@@ -11,20 +13,19 @@ use Rattle.text.specs.Text.{words, start_of}
 use Rattle.text.specs.Word.{Fine, Wrong, cause_of}
 use Rattle.text.specs.declared.word.WordCause.{WordCause}
 use Rattle.text.specs.declared.word.WordFault.{WordFault}
-use Rattle.text.proofs.Cuts.{cons_nil}
 use Rattle.text.proofs.Words.{cause_means, fine_cause, wrong_cause}
 use Rattle.roll.specs.Lists.{numbered, place_of, Distinct, alone, FirstWrong, ListTold, fault_at, first_fault, distinct, fault_then, list_fault}
 use Rattle.roll.specs.declared.list.List.{List}
 use Rattle.roll.specs.declared.list.List.TheVariants.{Names, Labels, Marks}
 use Rattle.roll.specs.declared.list.ListFault.{ListFault}
 use Rattle.roll.specs.declared.list.ListFault.TheVariants.{Word, CountOrRepeat}
-use Rattle.roll.proofs.Walks.{some_is, none_some, place_none, place_word}
+use Rattle.roll.proofs.Walks.{place_none, place_word}
 
 -- the first faulty word
 
 fault_move : (ws : Seq (Seq ℕ)) (at to : ℕ) → ((ws ≡ [] → ⊥) → to ≡ at) → first_fault at ws ≡ first_fault to ws
 fault_move [] at to h = refl
-fault_move (w ∷ ws) at to h = ap (λ n. first_fault n (w ∷ ws)) (sym (h cons_nil))
+fault_move (w ∷ ws) at to h = ap (λ n. first_fault n (w ∷ ws)) (sym (h cons≢nil))
 
 pub fault_passed : (at to : ℕ) (l m : Seq (Seq ℕ)) (w : Seq ℕ) → l ≡ w ∷ m → cause_of w ≡ None → ((m ≡ [] → ⊥) → to ≡ at + length w + 1) → first_fault at l ≡ first_fault to m
 fault_passed at to l m w is fine h = ap (first_fault at) is ∙ ap (λ o. fault_at at o (first_fault (at + length w + 1) m)) fine ∙ fault_move m (at + length w + 1) to h
@@ -66,11 +67,11 @@ wrong_tail at w ws f e r = record {
 }
 
 wrong_from : (ws : Seq (Seq ℕ)) (at : ℕ) (f : WordFault WordCause) → first_fault at ws ≡ Some f → WrongFrom at ws f
-wrong_from [] at f e = absurd (none_some f e)
+wrong_from [] at f e = absurd (none-some f e)
 wrong_from (w ∷ ws) at f e =
     elim (cause_cases (cause_of w)) [
       | inl n ↦ wrong_tail at w ws f n (wrong_from ws (at + length w + 1) f (sym (fault_passed at (at + length w + 1) (w ∷ ws) ws w refl n (λ _. refl)) ∙ e))
-      | inr s ↦ wrong_head at w ws s.0 f s.1 (some_is _ _ (sym (fault_here at (w ∷ ws) ws w s.0 refl s.1) ∙ e))
+      | inr s ↦ wrong_head at w ws s.0 f s.1 (same_Some _ _ (sym (fault_here at (w ∷ ws) ws w s.0 refl s.1) ∙ e))
     ]
 
 first_wrong : (ws : Seq (Seq ℕ)) (f : WordFault WordCause) → first_fault 0 ws ≡ Some f → FirstWrong ws f
@@ -91,7 +92,7 @@ each_fine [] at e = All-nil Fine
 each_fine (w ∷ ws) at e =
     elim (cause_cases (cause_of w)) [
       | inl n ↦ All-cons Fine w ws (caused w None n) (each_fine ws (at + length w + 1) (sym (fault_passed at (at + length w + 1) (w ∷ ws) ws w refl n (λ _. refl)) ∙ e))
-      | inr s ↦ absurd (none_some _ (sym e ∙ fault_here at (w ∷ ws) ws w s.0 refl s.1))
+      | inr s ↦ absurd (none-some _ (sym e ∙ fault_here at (w ∷ ws) ws w s.0 refl s.1))
     ]
 
 fine_first : (ws : Seq (Seq ℕ)) (at : ℕ) → All Fine ws → first_fault at ws ≡ None

@@ -2,6 +2,7 @@
 use Rattle.std.proofs.Common.{◌≡◌, ℕ, ◌<◌, ◌≤◌, List as Seq, length, Some, None, Option, sym, refl, ap, ◌∙◌, subst, inl, inr, MatchOption, option_map}
 use Rattle.std.specs.List.{slice_get}
 use Rattle.std.proofs.lemmas.Bool.{cases_lt}
+use Rattle.std.proofs.lemmas.Option.{none-some}
 use Rattle.text.specs.Text.{words}
 use Rattle.roll.specs.Lists.{numbered, place_of, Distinct, Good, ListTold, list_fault}
 use Rattle.roll.specs.Rolls.{Sound, text_of, words_of, number_of, word_of, RollTold, or_later, roll_fault}
@@ -10,7 +11,7 @@ use Rattle.roll.specs.declared.list.List.TheVariants.{Names, Labels, Marks}
 use Rattle.roll.specs.declared.list.ListFault.{ListFault}
 use Rattle.roll.specs.declared.roll.Roll.{Roll}
 use Rattle.roll.specs.declared.roll.RollFault.{RollFault}
-use Rattle.roll.proofs.Walks.{none_some, place_none, place_word, place_of_lem, word_here, word_there}
+use Rattle.roll.proofs.Walks.{place_none, place_word, place_of_lem, word_here, word_there}
 use Rattle.roll.proofs.Faults.{list_told, list_only, numbered_all}
 
 told_in_turn : (n l m : Seq ℕ) (a b c : Option ListFault) → ListTold Names (words n) a → ListTold Labels (words l) b → ListTold Marks (words m) c → RollTold n l m (or_later Names a (or_later Labels b (or_later Marks c None)))
@@ -69,7 +70,7 @@ pub word_number : (r : Roll) (list : List) (n : ℕ) (o : Option (Seq ℕ)) → 
 word_number r list n None e =
     elim (cases_lt n (length (words_of r list))) [
       | inr ge ↦ ge
-      | inl lt ↦ absurd (none_some _ (e ∙ ap (λ ws. slice_get ws n) (all_numbered r list) ∙ word_here n _ (words_of r list) lt refl))
+      | inl lt ↦ absurd (none-some _ (e ∙ ap (λ ws. slice_get ws n) (all_numbered r list) ∙ word_here n _ (words_of r list) lt refl))
     ]
 word_number r list n (Some w) e = (
   (word_there n w (words_of r list) (ap (λ ws. slice_get ws n) (sym (all_numbered r list)) ∙ sym e)).0,

@@ -1,41 +1,21 @@
 -- Walking a list of words.
-use Rattle.std.proofs.Common.{◌≡◌, ℕ, ◌+◌, ◌<◌, ◌≤◌, Bool, true, false, ◌≢◌, List, [], ◌∷◌, length, get_or, drop, Some, None, Option, Decides, HoldsAt, MatchBool, bytes_eq, sym, refl, ap, ◌∙◌, subst, inl, inr, add-zero, arith, length-drop}
+use Rattle.std.proofs.Common.{◌≡◌, ℕ, ◌<◌, Bool, true, false, ◌≢◌, List, [], length, get_or, Some, None, Decides, HoldsAt, MatchBool, bytes_eq, sym, refl, ap, ◌∙◌, subst, inl, inr, arith}
 use Rattle.std.specs.List.{slice_get, position_or_len, enumerate_from, AllWithin}
-use Rattle.std.proofs.lemmas.List.{get_or-drop, drop-drop, get_or_default}
+use Rattle.std.proofs.lemmas.List.{get_or_default}
 use Rattle.std.proofs.lemmas.List.FromFn.{length-enumerate_from, get_or-enumerate_from}
 use Rattle.std.proofs.lemmas.List.Quantifiers.{position-Some}
 use Rattle.std.proofs.lemmas.List.Sums.{fails_before_first, position_or_len_is}
-use Rattle.std.proofs.lemmas.Option.{slice_get-get_or, slice_get_within, get_or_from_slice_get}
+use Rattle.std.proofs.lemmas.Option.{none-some, slice_get-get_or, slice_get_within, get_or_from_slice_get}
 use Rattle.std.proofs.lemmas.Slice.Eq.{bytes_eq-Decides}
 use Rattle.std.proofs.lemmas.Bool.{cond-true, lt-ltb, cases_lt, both_ways, false_from_ne_true, false≢true}
 use Rattle.roll.specs.Lists.{Distinct, place_of}
-
--- one step on in a list of which the first n words are passed
-module _ (n : ℕ) (v : List ℕ) (all l m : List (List ℕ)) (here : drop n all ≡ l) (is : l ≡ v ∷ m) where
-  pub step_word : get_or all n [] ≡ v
-  step_word = ap (λ k. get_or all k []) (sym (add-zero n)) ∙ sym (get_or-drop n all 0 []) ∙ ap (λ x. get_or x 0 []) (here ∙ is)
-
-  pub step_on : drop (n + 1) all ≡ m
-  step_on = sym (drop-drop 1 n all) ∙ ap (drop 1) (here ∙ is)
-
-  pub step_there : n < length all
-  step_there = omega (arith, length-drop n all, ap length (here ∙ is))
-
-pub step_end : (n : ℕ) (all l : List (List ℕ)) → drop n all ≡ l → l ≡ [] → length all ≤ n
-step_end n all l here e = omega (arith, length-drop n all, ap length (here ∙ e))
-
-pub some_is : {X : Type 0} (a b : X) → ◌≡◌ {A = Option X} (Some a) (Some b) → a ≡ b
-some_is a b e = cc
-
-pub none_some : {X : Type 0} (a : X) → ◌≡◌ {A = Option X} None (Some a) → ⊥
-none_some a e = cc
 
 -- a word that has no place is not there
 pub place_none : (w : List ℕ) (l : List (List ℕ)) → place_of w l ≡ None → (j : ℕ) → j < length l → get_or l j [] ≢ w
 place_none w l e j lt q =
     let is : List ℕ → Bool = λ v. bytes_eq v w in
     elim (cases_lt (position_or_len is l) (length l)) [
-      | inl le ↦ none_some _ (sym e ∙ cond-true _ _ _ (lt-ltb _ _ le))
+      | inl le ↦ none-some _ (sym e ∙ cond-true _ _ _ (lt-ltb _ _ le))
       | inr ge ↦ both_ways (bytes_eq (get_or l j []) w) (fails_before_first is l j [] (omega arith)) ((bytes_eq-Decides (get_or l j []) w).1 q)
     ]
 

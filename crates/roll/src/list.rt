@@ -3,10 +3,10 @@ ghost use Rattle.std.specs.Result.{result_err};
 ghost use Rattle.text.specs.Text.{words};
 ghost use Rattle.roll.specs.Numbers.{list_number, fault_number, fault_place};
 ghost use Rattle.roll.specs.Lists.{alone, first_fault, list_fault, ListTold};
-ghost use Rattle.roll.specs.declared.list.ListFault.TheVariants.{Word};
+ghost use Rattle.roll.specs.declared.list.ListFault.TheVariants.{Word, CountOrRepeat};
 
 use crate::lookup::{count_in, is_distinct};
-use book::counts::Counts;
+use book::counts::{CountRefusal, Counts};
 use text::pieces::Pieces;
 use text::word::{WordCause, WordFault, check_word};
 
@@ -54,6 +54,15 @@ impl From<WordFault<WordCause>> for ListFault {
 
     fn from(word: WordFault<WordCause>) -> ListFault {
         ListFault::Word(word)
+    }
+}
+
+// The count of words is outside its limits.
+impl From<CountRefusal> for ListFault {
+    ghost from_gives = { λ refusal r. r ≡ CountOrRepeat };
+
+    fn from(_refusal: CountRefusal) -> ListFault {
+        Self::CountOrRepeat
     }
 }
 
@@ -112,9 +121,7 @@ impl List {
     {
         check_words(text)?;
         let count = count_in(text);
-        self.alone(count)
-            .check()
-            .map_err(|_| ListFault::CountOrRepeat)?;
+        self.alone(count).check()?;
         if !is_distinct(text) {
             return Err(ListFault::CountOrRepeat);
         }

@@ -1,4 +1,5 @@
 -- Cutting a text at a byte.
+use mathlib.Core.List.{cons≢nil}
 use Rattle.std.proofs.Common.{◌≡◌, ℕ, zero, suc, ◌+◌, ◌<◌, Bool, false, eqb, ◌≢◌, List, [], ◌∷◌, ◌++◌, length, get_or, take, drop, All, Some, None, position, sym, refl, ap, ◌∙◌, inl, inr, arith}
 use Rattle.std.specs.List.{onto_first, join_with_byte, position_or_len}
 use Rattle.std.proofs.lemmas.List.{take_all, take-append-le, drop-drop, drop_at}
@@ -11,9 +12,6 @@ use Rattle.text.specs.Text.{pieces, words, Lacks, Cut, WordCut, start_of, Stands
 -- the byte s, as a test
 abbrev is : ℕ → ℕ → Bool
 is s b = eqb b s
-
-pub cons_nil : {X : Type 0} {x : X} {xs : List X} → x ∷ xs ≡ [] → ⊥
-cons_nil e = cc
 
 -- the first piece ends where the byte s comes first
 pub cut_at : (s : ℕ) (text : List ℕ) (end : ℕ) → position (is s) text ≡ Some end → pieces s text ≡ take end text ∷ pieces s (drop (end + 1) text)
@@ -72,7 +70,7 @@ cut_only s t (w ∷ ws) h = sym (pieces-joined s w ws h.lack) ∙ ap (pieces s) 
 -- the same of words
 pub cut_words : (t : List ℕ) → WordCut t (words t)
 cut_words [] = record { join = refl; lack = All-nil (Lacks 32); some = λ e. cc }
-cut_words (b ∷ bs) = let c = cut_pieces 32 (b ∷ bs) in record { join = c.join; lack = c.lack; some = λ e. cons_nil (sym c.join ∙ ap (join_with_byte 32) e) }
+cut_words (b ∷ bs) = let c = cut_pieces 32 (b ∷ bs) in record { join = c.join; lack = c.lack; some = λ e. cons≢nil (sym c.join ∙ ap (join_with_byte 32) e) }
 
 some_words : (t : List ℕ) → t ≢ [] → words t ≡ pieces 32 t
 some_words [] h = absurd (h refl)
@@ -80,9 +78,9 @@ some_words (b ∷ bs) h = refl
 
 some_joined : (w : List ℕ) (ws : List (List ℕ)) → w ∷ ws ≢ [] ∷ [] → join_with_byte 32 (w ∷ ws) ≢ []
 some_joined [] [] h e = h refl
-some_joined [] (v ∷ ws) h e = cons_nil e
-some_joined (b ∷ w) [] h e = cons_nil e
-some_joined (b ∷ w) (v ∷ ws) h e = cons_nil e
+some_joined [] (v ∷ ws) h e = cons≢nil e
+some_joined (b ∷ w) [] h e = cons≢nil e
+some_joined (b ∷ w) (v ∷ ws) h e = cons≢nil e
 
 pub words_only : (t : List ℕ) (ws : List (List ℕ)) → WordCut t ws → ws ≡ words t
 words_only t [] h = ap words h.join

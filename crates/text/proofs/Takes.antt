@@ -1,4 +1,5 @@
 -- Taking the first of the pieces that are left.
+use mathlib.Core.List.{cons≢nil}
 use Rattle.std.proofs.Common.{◌≡◌, ℕ, zero, suc, ◌+◌, ◌≢◌, List, [], ◌∷◌, length, IfSome, slice_get, Some, sym, ap, ◌∙◌, subst, add-zero, arith}
 use Rattle.std.specs.Iterator.{MakesProgress, Yields, at_most}
 use Rattle.std.proofs.lemmas.Iterator.{YieldsList}
@@ -9,7 +10,6 @@ use Rattle.text.specs.Text.{start_of}
 use Rattle.text.specs.Left.{left, start, Took, Gives, GivesEach, GivesPlaces}
 use Rattle.text.specs.declared.pieces.Piece.{Piece}
 use Rattle.text.specs.declared.pieces.Pieces.{Pieces}
-use Rattle.text.proofs.Cuts.{cons_nil}
 
 -- one piece fewer is left
 pub goes_on : (p q : Pieces) (w : Piece) → Took p w q → MakesProgress (λ _. Unit {0}) (λ x. at_most (length (left x))) p (Some w) q
@@ -25,7 +25,7 @@ begins (w ∷ xs) p q y zero = y.1.place ∙ sym (ap (λ ws. start p + start_of 
 begins (w ∷ []) p q y (suc k) = tt
 begins (w ∷ v ∷ xs) p q y (suc k) =
     let next = y.0 in
-    let some : left next ≢ [] = λ e. cons_nil (sym y.2.1.first ∙ e) in
+    let some : left next ≢ [] = λ e. cons≢nil (sym y.2.1.first ∙ e) in
     let on : start next + start_of k (left next) ≡ start p + (length w.bytes.now + 1 + start_of k (left next)) = omega (arith, y.1.further some) in
     subst (λ n. IfSome (slice_get (v ∷ xs) k) (λ x. x.at ≡ n)) (on ∙ ap (λ ws. start p + start_of (suc k) ws) (sym y.1.first)) (begins (v ∷ xs) next q y.2 k)
 

@@ -28,12 +28,12 @@ impl RollFault {
     }
 }
 
-// How many words the text has, where it makes this list of a roll.
-fn check_list(list: List, text: &[u8]) -> Result<u8, RollFault>
-    ensures count { IfOk result (λ n. n ≡ length (words text.now)) }
-    ensures fault { MatchResult result (λ _. list_fault list (words text.now) ≡ None) (λ f. (f.list ≡ list) × (list_fault list (words text.now) ≡ Some f.fault)) }
+// Refuses a text that does not make this list of a roll.
+fn check_list(list: List, text: &[u8]) -> Result<(), RollFault>
+    ensures { MatchResult result (λ _. list_fault list (words text.now) ≡ None) (λ f. (f.list ≡ list) × (list_fault list (words text.now) ≡ Some f.fault)) }
 {
-    list.check(text).map_err(|fault| RollFault { list, fault })
+    list.check(text).map_err(|fault| RollFault { list, fault })?;
+    Ok(())
 }
 
 impl<'a> Roll<'a> {

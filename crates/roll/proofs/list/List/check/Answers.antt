@@ -20,16 +20,16 @@ returns-in_err-check_words-clause-only c =
     let e : result_err c.from_residual.result ≡ list_fault c.args.self ws = search rules in
     λ x h. list_told_only c.args.self ws _ x e h
 
-pub returns-in_err-map_err-clause-told : goal.returns-in_err-map_err-clause-told
-returns-in_err-map_err-clause-told c =
+pub returns-in_err-check-clause-told : goal.returns-in_err-check-clause-told
+returns-in_err-check-clause-told c =
     let ws = words c.args.text.now in
-    let e : result_err c.from_residual-in_err-map_err.result ≡ list_fault c.args.self ws = search rules in
+    let e : result_err c.from_residual-in_err-check.result ≡ list_fault c.args.self ws = search rules in
     list_as_told c.args.self ws _ e
 
-pub returns-in_err-map_err-clause-only : goal.returns-in_err-map_err-clause-only
-returns-in_err-map_err-clause-only c =
+pub returns-in_err-check-clause-only : goal.returns-in_err-check-clause-only
+returns-in_err-check-clause-only c =
     let ws = words c.args.text.now in
-    let e : result_err c.from_residual-in_err-map_err.result ≡ list_fault c.args.self ws = search rules in
+    let e : result_err c.from_residual-in_err-check.result ≡ list_fault c.args.self ws = search rules in
     λ x h. list_told_only c.args.self ws _ x e h
 
 pub returns-then-not-is_distinct : goal.returns-then-not-is_distinct

@@ -33,9 +33,9 @@ returns-clause-sound c = sound record {
   names = c.args.names;
   labels = c.args.labels;
   marks = c.args.marks;
-  names_fine = c.in_ok-check_list.ensures.fault;
-  labels_fine = c.in_ok-check_list-2.ensures.fault;
-  marks_fine = c.in_ok-check_list-3.ensures.fault;
+  names_fine = c.in_ok-check_list.ensures;
+  labels_fine = c.in_ok-check_list-2.ensures;
+  marks_fine = c.in_ok-check_list-3.ensures;
 }
 
 pub returns-clause-told : goal.returns-clause-told
