@@ -4,7 +4,8 @@ ghost use Rattle.policy_reader.specs.Token.{mark, sign, operand, Unsigned};
 use crate::fault::{Cause, WordFault};
 use text::pieces::Piece;
 
-// An operand, which is a part of the text, and the byte offset at which its word begins.
+// An operand, which is a part of the text, and the byte offset at which its word begins. It is no
+// `Piece`, since it does not begin at that byte: its word's sign does.
 #[derive(Clone, Copy)]
 pub struct Operand<'a> {
     pub bytes: &'a [u8],
