@@ -8,7 +8,7 @@ ghost use Rattle.policy_reader.specs.Spell.{Numbered, IsOperand, Spells, sign_of
 ghost use Rattle.policy_reader.specs.Operands.{IsFaultOf, ReadAs};
 
 use crate::fault::{Cause, WordFault};
-use crate::token::{Operand, Token, cut};
+use crate::token::{Operand, Token};
 use policy_words::word::{Letter, Word};
 use roll::list::List;
 use roll::roll::Roll;
@@ -103,5 +103,5 @@ pub fn read_word(roll: &Roll, word: Piece) -> Result<Word, WordFault>
         (λ w. Spells roll.now w word.entry.bytes.now)
         (λ f. (f.at ≡ word.entry.at) × Wrong roll.now word.entry.bytes.now f.cause) }
 {
-    cut(word)?.word(roll)
+    Token::try_from(word)?.word(roll)
 }

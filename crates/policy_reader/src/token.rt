@@ -4,7 +4,8 @@ ghost use Rattle.policy_reader.specs.Token.{mark, sign, operand, Unsigned};
 use crate::fault::{Cause, WordFault};
 use text::pieces::Piece;
 
-// An operand, which is a part of the text, and the byte offset at which its word begins.
+// An operand, which is a part of the text, and the byte offset at which its word begins. It is no
+// `Piece`, since it does not begin at that byte: its word's sign does.
 #[derive(Clone, Copy)]
 pub struct Operand<'a> {
     pub bytes: &'a [u8],
@@ -40,35 +41,39 @@ impl<'a> Operand<'a> {
     }
 }
 
-// Cuts a word after its sign.
-pub fn cut<'a>(word: Piece<'a>) -> Result<Token<'a>, WordFault>
-    ensures { MatchResult result
-        (λ t. (word.entry.bytes.now ≡ mark (sign t) ++ (operand t).bytes.now) × ((operand t).at ≡ word.entry.at))
-        (λ f. (f.at ≡ word.entry.at) × Unsigned word.entry.bytes.now f.cause) }
-{
-    let operand = |bytes| Operand { bytes, at: word.at };
-    match word.bytes {
-        [] => Err(operand(word.bytes).fault(Cause::Empty)),
-        [b'@', second, rest @ ..] => match *second as char {
-            '?' => Ok(Token::AtLetter(operand(rest))),
-            '#' => Ok(Token::AtName(operand(rest))),
-            _ => Err(operand(rest).fault(Cause::Sign)),
-        },
-        [sign, rest @ ..] => match *sign as char {
-            '#' => Ok(Token::Name(operand(rest))),
-            '?' => Ok(Token::Letter(operand(rest))),
-            '%' => Ok(Token::Mark(operand(rest))),
-            '!' => Ok(Token::Not(operand(rest))),
-            '&' => Ok(Token::And(operand(rest))),
-            ':' => Ok(Token::Or(operand(rest))),
-            '$' => Ok(Token::Bind(operand(rest))),
-            '/' => Ok(Token::Follow(operand(rest))),
-            '>' => Ok(Token::Forward(operand(rest))),
-            '<' => Ok(Token::Backward(operand(rest))),
-            ';' => Ok(Token::Seq(operand(rest))),
-            '+' => Ok(Token::Plus(operand(rest))),
-            '=' => Ok(Token::Stay(operand(rest))),
-            _ => Err(operand(rest).fault(Cause::Sign)),
-        },
+// A word is cut after its sign.
+impl<'a> TryFrom<Piece<'a>> for Token<'a> {
+    type Error = WordFault;
+
+    ghost try_from_gives = { λ word result. MatchResult result
+        (λ t. (word.bytes.now ≡ mark (sign t) ++ (operand t).bytes.now) × ((operand t).at ≡ word.at))
+        (λ f. (f.at ≡ word.at) × Unsigned word.bytes.now f.cause) };
+
+    fn try_from(word: Piece<'a>) -> Result<Token<'a>, WordFault> {
+        let operand = |bytes| Operand { bytes, at: word.at };
+        match word.bytes {
+            [] => Err(operand(word.bytes).fault(Cause::Empty)),
+            [b'@', second, rest @ ..] => match *second as char {
+                '?' => Ok(Token::AtLetter(operand(rest))),
+                '#' => Ok(Token::AtName(operand(rest))),
+                _ => Err(operand(rest).fault(Cause::Sign)),
+            },
+            [sign, rest @ ..] => match *sign as char {
+                '#' => Ok(Token::Name(operand(rest))),
+                '?' => Ok(Token::Letter(operand(rest))),
+                '%' => Ok(Token::Mark(operand(rest))),
+                '!' => Ok(Token::Not(operand(rest))),
+                '&' => Ok(Token::And(operand(rest))),
+                ':' => Ok(Token::Or(operand(rest))),
+                '$' => Ok(Token::Bind(operand(rest))),
+                '/' => Ok(Token::Follow(operand(rest))),
+                '>' => Ok(Token::Forward(operand(rest))),
+                '<' => Ok(Token::Backward(operand(rest))),
+                ';' => Ok(Token::Seq(operand(rest))),
+                '+' => Ok(Token::Plus(operand(rest))),
+                '=' => Ok(Token::Stay(operand(rest))),
+                _ => Err(operand(rest).fault(Cause::Sign)),
+            },
+        }
     }
 }
