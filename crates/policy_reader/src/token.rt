@@ -12,7 +12,8 @@ pub struct Operand<'a> {
     pub at: usize,
 }
 
-// A word cut into its sign and its operand.
+// A word cut into its sign and its operand, a case for each sign and the operand in each, so that a word of a policy
+// is made of a token sign by sign.
 #[derive(Clone, Copy)]
 pub enum Token<'a> {
     Name(Operand<'a>),

@@ -1,4 +1,5 @@
-// Look-up in the words of a text, of which the first 64 have numbers.
+// Look-up in the words of a text, of which the first 64 have numbers. The text is handed to each: it is what the
+// functions are about, as a `self` would be, and carries no fact.
 ghost use Rattle.std.specs.Prelude.{◌≡◌, ◌<◌, min, length, Decides, IfSome};
 ghost use Rattle.std.specs.Option.{option_map};
 ghost use Rattle.std.specs.List.{slice_get};
