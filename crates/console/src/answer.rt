@@ -38,6 +38,7 @@ impl Answer<'_> {
     }
 }
 
+// A tally is no `Display`: with one, whose contract can name the bytes, the proof of those bytes did not close.
 fn write_tally(tally: Tally, out: &mut impl Write) -> io::Result<()> {
     let counts = tally.counts;
     write!(

@@ -38,6 +38,7 @@ impl<'a> Question<'a> {
     }
 }
 
+// Two functions, since a request names the calls on ties and those on mark facts each by a case of its own.
 impl Verb {
     fn of_tie(self, tie: Tie) -> Request {
         match self {

@@ -11,7 +11,7 @@ use book::tie::Tie;
 
 // The calls on mark facts hand over to the mark board, here and in the other make, a line each: a book made
 // of a mark board and a store of ties would need a third trait with the laws of both, to save these lines. Setting
-// and lifting are two calls and not one with a value, since each says here what becomes of the row.
+// and lifting, as entering and striking, are calls of the trait, which programs name one by one.
 // Each call says what the row is after it (`row`): entering and striking write at one place below the
 // capacity, and only where they alter the ties; no other call writes.
 impl Keeping for ListBook {

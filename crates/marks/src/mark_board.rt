@@ -4,6 +4,8 @@ ghost use Rattle.marks.specs.MarkBits.{CountedMarks};
 
 use book::counts::Counts;
 
+// The number stands beside the words here and in the board book. It counts facts within the counts, by pairs here and
+// by triples there, and one type for both, of an array here and a vector there, would count bits and need a lemma more.
 #[derive(Drop)]
 pub struct MarkBoard {
     pub(crate) counts: Counts,

@@ -41,7 +41,8 @@ impl Words<'_> {
         next
     }
 
-    // The entry of the word at `at`, or one that no word has.
+    // The entry of the word at `at`; past the words that of `=`, of which nothing is asked, and which fills
+    // the table.
     fn entry_at(&self, at: usize) -> Entry
         ensures { IsEntryAt self.now at result }
     {

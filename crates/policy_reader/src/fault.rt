@@ -49,7 +49,9 @@ impl From<WordCause> for Cause {
 // A faulty word: what is wrong with it, and the byte offset at which it begins.
 pub type WordFault = text::word::WordFault<Cause>;
 
-// Why a text is no policy's. Each case has the byte offset of the word; 9 has the text's length.
+// Why a text is no policy's. Each case has the byte offset of the word; 9 has the text's length. The cases are those
+// of a policy's words and more, with byte offsets in the place of the numbers of words: one type for both would give
+// each some cases of the other.
 #[derive(Clone, Copy, Debug, PartialEq, Eq)]
 pub enum PolicyFault {
     // 4 to 7: a word is faulty by itself

@@ -20,7 +20,8 @@ pub struct Found<'a> {
 }
 
 // Fills empty words with those of the text up to its end, its 65th word or its first faulty one, and
-// tells which of these it came to.
+// tells which of these it came to. Roll and text are handed on apart, here and below: a roll is read once, for many
+// texts.
 fn fill(
     words: &mut ArrayVec<Word, 64>,
     roll: &Roll,

@@ -3,7 +3,7 @@ ghost use Rattle.std.specs.Prelude.{◌≡◌, ◌+◌, ◌*◌, min};
 ghost use Rattle.requests.specs.Decimal.{written};
 
 // The number that the word writes in decimal digits, or `most` where it is greater; none where the word
-// is empty or has another byte.
+// is empty or has another byte. The library's `parse` takes a sign too, and refuses a number that is too great.
 pub fn decimal(word: &[u8], most: u16) -> Option<u16>
     ensures { result ≡ written word.now most }
 {

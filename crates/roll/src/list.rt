@@ -95,18 +95,15 @@ impl List {
         match self {
             List::Names => Counts {
                 names: count,
-                labels: 0,
-                marks: 0,
+                ..Counts::LEAST
             },
             List::Labels => Counts {
-                names: 1,
                 labels: count,
-                marks: 0,
+                ..Counts::LEAST
             },
             List::Marks => Counts {
-                names: 1,
-                labels: 0,
                 marks: count,
+                ..Counts::LEAST
             },
         }
     }
