@@ -33,24 +33,9 @@ impl Answer<'_> {
     pub fn write_to(self, out: &mut impl Write) -> io::Result<()> {
         match self {
             Answer::Word(word) => out.write_all(word),
-            Answer::Tally(tally) => write_tally(tally, out),
+            Answer::Tally(tally) => write!(out, "{tally}"),
         }
     }
-}
-
-// A tally is no `Display`: with one, whose contract can name the bytes, the proof of those bytes did not close.
-fn write_tally(tally: Tally, out: &mut impl Write) -> io::Result<()> {
-    let counts = tally.counts;
-    write!(
-        out,
-        "names={} labels={} marks={}",
-        counts.names, counts.labels, counts.marks
-    )?;
-    write!(
-        out,
-        " ties={} marked={} capacity={}",
-        tally.ties, tally.marked, tally.capacity
-    )
 }
 
 impl Refusal<'_> {

@@ -1,3 +1,4 @@
 pub mod Decimal
 pub mod Requests
+pub mod Tallies
 pub mod Operands

@@ -23,9 +23,7 @@ pub fn number_of<'a>(roll: Roll<'_>, list: List, word: &'a [u8]) -> Result<u8, &
     ensures known { result_ok result ≡ operand roll.entry list word.now }
     ensures unknown { IfErr result (λ w. w.now ≡ word.now) }
 {
-    // a match, since what a closure of `or_else` finds by the roll is lost to the proof
-    match hash_number(word) {
-        Some(number) => Ok(number),
-        None => roll.find(list, word).ok_or(word),
-    }
+    hash_number(word)
+        .or(roll.find(list, word))
+        .ok_or(word)
 }

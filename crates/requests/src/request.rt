@@ -1,7 +1,8 @@
 // What a book is asked at the console, and what it replies.
-ghost use Rattle.std.specs.Prelude.{◌≡◌, Ok};
+ghost use Rattle.std.specs.Prelude.{◌≡◌, Ok, Some};
 ghost use Rattle.runs.specs.Runs.{answer, after};
 ghost use Rattle.requests.specs.Requests.{Replies, meaning_after};
+ghost use Rattle.requests.specs.Tallies.{tally_text};
 
 use book::counts::Counts;
 use book::faces::Keeping;
@@ -9,6 +10,7 @@ use book::mark::MarkFact;
 use book::refusal::EnterRefusal;
 use book::tie::{Neighbours, Tie};
 use runs::play::{Answer, Call, play};
+use std::fmt;
 
 // A request to a book of any make. A case each and no closure: what is replied is a law over requests.
 #[derive(Clone, Copy, Debug, PartialEq, Eq)]
@@ -28,6 +30,23 @@ pub struct Tally {
     pub ties: usize,
     pub marked: usize,
     pub capacity: usize,
+}
+
+impl fmt::Display for Tally {
+    ghost output = { λ t. Some (tally_text t) };
+
+    fn fmt<W: fmt::Write>(&self, f: &mut fmt::Formatter<W>) -> fmt::Result {
+        let Counts {
+            names,
+            labels,
+            marks,
+        } = self.counts;
+        let (ties, marked, capacity) = (self.ties, self.marked, self.capacity);
+        write!(
+            f,
+            "names={names} labels={labels} marks={marks} ties={ties} marked={marked} capacity={capacity}"
+        )
+    }
 }
 
 // What a request is replied where it is not refused.
