@@ -45,3 +45,7 @@ unlit n j =
     let word : get_or (replicate n 0) (j / 64) 0 ≡ 0 =
     ⊎_elim (λ lt. get_or-replicate n (j / 64) 0 0 lt) (λ le. get_or_past (replicate n 0) (j / 64) 0 (subst (λ k. k ≤ j / 64) (sym (length-replicate n 0)) le)) (cases_lt (j / 64) n) in
     ap (λ w. bit w (j % 64)) word ∙ bit_zero (j % 64)
+
+-- and none past the words
+pub lit_past : (ws : List ℕ) (i : ℕ) → length ws ≤ i / 64 → bit_set ws i ≡ false
+lit_past ws i past = ap (λ w. bit w (i % 64)) (get_or_past ws (i / 64) 0 past) ∙ bit_zero (i % 64)

@@ -1,14 +1,13 @@
 -- The bits of shifted and joined words, and the lowest bit of a word.
-use Rattle.std.proofs.Common.{◌≡◌, ℕ, ◌+◌, ◌-◌, ◌*◌, ◌/◌, ◌%◌, ◌^◌, ◌<◌, ◌≤◌, true, false, ◌||◌, eqb, List, get_or, sym, ap, ◌∙◌, ⊎_elim, arith}
+use Rattle.std.proofs.Common.{◌≡◌, ℕ, zero, suc, ◌+◌, ◌-◌, ◌*◌, ◌/◌, ◌%◌, ◌^◌, ◌<◌, ◌≤◌, true, false, ◌||◌, eqb, List, get_or, sym, refl, ap, ◌∙◌, subst, ⊎_elim, div-one, arith}
 use Rattle.std.specs.Int.Bits.{bit_or}
-use Rattle.std.specs.Int.{bit_at, w64, trailing_zeros}
-use Rattle.std.specs.Int.Count.{trailing_of_zero}
+use Rattle.std.specs.Int.{bit_at}
+use Rattle.std.specs.Int.Count.{count_trailing_zeros, under}
 use Rattle.std.proofs.lemmas.Bool.{cases_eq, cases_lt}
 use Rattle.std.proofs.lemmas.Bool.Decides.{nat_tests}
-use Rattle.std.proofs.lemmas.Nat.{pow_pos, shr-shr, shr_split}
-use Rattle.std.proofs.lemmas.Nat.Bits.{bit_at-lt, bit_at-zero, bit_at_or, bit_at_above, bit_at_cat_low, bit_at_cat_high, bit_at-trailing_zeros}
+use Rattle.std.proofs.lemmas.Nat.{pow_pos, shr-shr, shr_split, mod_below}
+use Rattle.std.proofs.lemmas.Nat.Bits.{bit_at-lt, bit_at-zero, bit_at_or, bit_at_above, bit_at_cat_low, bit_at_cat_high}
 use Rattle.bits.specs.Bits.{bit, bit_set}
-use Rattle.bits.proofs.BitLaws.{bit_zero}
 
 bit_shr : (w s k : ℕ) → bit (w / 2 ^ s) k ≡ bit w (s + k)
 unfolding bit
@@ -65,20 +64,40 @@ module _ (ws : List ℕ) (i k a : ℕ) (k-in : k < 64) (first : a ≡ get_or ws 
       grind (arith, none, shl_high b s k k-in le, found))
       (cases_lt k s)
 
--- the bits below the lowest one that is set
-pub trailing_clear : (n j : ℕ) → n < 2 ^ 64 → j < trailing_zeros w64 n → bit n j ≡ false
+-- a digit is 0 or 1
+digit : (P : ℕ → Type 0) (n : ℕ) → n < 2 → P 0 → P 1 → P n
+digit P n lt at0 at1 = ⊎_elim (λ (e : n ≡ 0). subst P (sym e) at0) (λ ne. let e : n ≡ 1 = omega (arith, ne) in subst P (sym e) at1) (cases_eq n 0)
+
+bit_next : (n k : ℕ) → bit (n / 2) k ≡ bit n (suc k)
+bit_next n k = let e : 1 + k ≡ suc k = omega arith in subst (λ j. bit (n / 2) k ≡ bit n j) e (bit_shr n 1 k)
+
+bit-first : (n : ℕ) → bit n 0 ≡ eqb (n % 2) 1
 unfolding bit
-trailing_clear n j fits lt =
+bit-first n = ap (λ m. eqb (m % 2) 1) (div-one n)
+
+-- the bits below the lowest one that is set
+pub trailing_clear : (k n j : ℕ) → j < count_trailing_zeros k n → bit n j ≡ false
+unfolding count_trailing_zeros
+trailing_clear zero n j lt = absurd (omega arith)
+trailing_clear (suc k) n j lt =
+    digit (λ d. n % 2 ≡ d → j < under d (count_trailing_zeros k (n / 2)) → bit n j ≡ false) (n % 2) (mod_below n 2 (omega arith))
+    (λ e below.
     ⊎_elim
-    (λ (e : n ≡ 0). ap (λ m. bit m j) e ∙ bit_zero j)
-    (λ ne. ap (λ m. eqb m 1) ((bit_at-trailing_zeros w64 n (omega (arith, ne)) fits).2 j lt))
-    (cases_eq n 0)
+    (λ (z : j ≡ 0). subst (λ i. bit n i ≡ false) (sym z) (bit-first n ∙ ap (λ d. eqb d 1) e))
+    (λ nz.
+    let back : suc (j - 1) ≡ j = omega (arith, nz) in
+    subst (λ i. bit n i ≡ false) back (sym (bit_next n (j - 1)) ∙ trailing_clear k (n / 2) (j - 1) (omega (arith, below, nz))))
+    (cases_eq j 0))
+    (λ e none. absurd (omega (arith, none)))
+    refl lt
 
 -- and that one
-pub trailing_set : (n : ℕ) → n < 2 ^ 64 → trailing_zeros w64 n < 64 → bit n (trailing_zeros w64 n) ≡ true
-unfolding bit
-trailing_set n fits lt =
-    ⊎_elim
-    (λ (e : n ≡ 0). absurd (omega (arith, lt, ap (trailing_zeros w64) e, trailing_of_zero 64)))
-    (λ ne. ap (λ m. eqb m 1) (bit_at-trailing_zeros w64 n (omega (arith, ne)) fits).1)
-    (cases_eq n 0)
+pub trailing_set : (k n : ℕ) → count_trailing_zeros k n < k → bit n (count_trailing_zeros k n) ≡ true
+unfolding count_trailing_zeros
+trailing_set zero n lt = absurd (omega arith)
+trailing_set (suc k) n lt =
+    let t = count_trailing_zeros k (n / 2) in
+    digit (λ d. n % 2 ≡ d → under d t < suc k → bit n (under d t) ≡ true) (n % 2) (mod_below n 2 (omega arith))
+    (λ e below. sym (bit_next n t) ∙ trailing_set k (n / 2) (omega (arith, below)))
+    (λ e _. bit-first n ∙ ap (λ d. eqb d 1) e)
+    refl lt
