@@ -94,9 +94,9 @@ new_counts c r x n e made = made ∙ ap made_counts e ∙ made_fitted c n
 pub new_enough : (c : Counts) (n : ℕ) → possible (fitted c n) ≤ n * 64
 new_enough c n = grind (arith, nat_tests)
 
-pub new_means : (m : MarkBoard) (bits : List ℕ) (n : ℕ) (c : Counts) → bits ≡ replicate n 0 → counts_kept m ≡ fitted c n → marks_kept m ≡ (λ _ _. false)
+pub new_means : (m : MarkBoard) (bits : List ℕ) (k n : ℕ) (c : Counts) → bits ≡ replicate k 0 → counts_kept m ≡ fitted c n → marks_kept m ≡ (λ _ _. false)
     → ◌≡◌ {A = Meaning} (record { counts = counts_kept m; capacity = possible (counts_kept m); tied = ties_in (counts_kept m) bits; marked = marks_kept m }) (board_opened c n)
-new_means m bits n c clear counts none =
-    let empty : ties_in (counts_kept m) bits ≡ (λ _ _ _. false) = fun_ext3 (λ x y z. ap (λ us. ties_in (counts_kept m) us x y z) clear ∙ ties.untied (counts_kept m) n x y z) in
+new_means m bits k n c clear counts none =
+    let empty : ties_in (counts_kept m) bits ≡ (λ _ _ _. false) = fun_ext3 (λ x y z. ap (λ us. ties_in (counts_kept m) us x y z) clear ∙ ties.untied (counts_kept m) k x y z) in
     let made : opened (fitted c n) (possible (fitted c n)) ≡ board_opened c n = grind (arith, nat_tests) in
     cc

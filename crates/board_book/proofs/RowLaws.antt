@@ -1,5 +1,5 @@
 -- The lowest name that a name is tied to, or that is tied to it.
-use Rattle.std.proofs.Common.{◌≡◌, ℕ, ◌+◌, ◌-◌, ◌^◌, ◌<◌, ◌≤◌, Bool, true, false, ltb, List, Some, None, Option, sym, refl, ap, ◌∙◌, ⊎_elim, arith}
+use Rattle.std.proofs.Common.{◌≡◌, ℕ, ◌+◌, ◌-◌, ◌<◌, ◌≤◌, Bool, true, false, ltb, List, Some, None, Option, sym, refl, ap, ◌∙◌, ⊎_elim, arith}
 use Rattle.std.specs.Int.{w64, trailing_zeros}
 use Rattle.std.proofs.lemmas.Bool.{cases_lt}
 use Rattle.std.specs.Bool.{then_some}
@@ -21,7 +21,7 @@ use Rattle.bits.proofs.Gathering.{trailing_clear, trailing_set}
 
 -- the bits of a row from `at` on, in one word
 module _ (c : Counts) (ws : List ℕ) (l s at i w : ℕ) (few : c.names ≤ 64) (l_in : l < c.labels) (s-in : s < c.names)
-    (start : i ≡ place c.names l s at) (fits : w < 2 ^ 64) (gathered : (k : ℕ) → k < 64 → bit w k ≡ bit_set ws (i + k)) where
+    (start : i ≡ place c.names l s at) (gathered : (k : ℕ) → k < 64 → bit w k ≡ bit_set ws (i + k)) where
   abbrev zeros : ℕ
   zeros = trailing_zeros w64 w
 
@@ -34,7 +34,7 @@ module _ (c : Counts) (ws : List ℕ) (l s at i w : ℕ) (few : c.names ≤ 64) 
   row_none k low below =
       ⊎_elim
       (λ (lt : k < c.names).
-      let off : bit_set ws (place c.names l s k) ≡ false = row_bit k low lt ∙ trailing_clear w (k - at) fits (below lt) in
+      let off : bit_set ws (place c.names l s k) ≡ false = row_bit k low lt ∙ trailing_clear 64 w (k - at) (below lt) in
       grind (arith, off))
       (λ (le : c.names ≤ k). grind (arith, nat_tests, le))
       (cases_lt k c.names)
@@ -42,7 +42,7 @@ module _ (c : Counts) (ws : List ℕ) (l s at i w : ℕ) (few : c.names ≤ 64) 
   pub row_found : zeros < c.names - at → ties_in c ws l s (at + zeros) ≡ true
   row_found lt =
       let back : at + zeros - at ≡ zeros = omega arith in
-      let on : bit_set ws (place c.names l s (at + zeros)) ≡ true = row_bit (at + zeros) (omega arith) (omega (arith, lt)) ∙ ap (bit w) back ∙ trailing_set w fits (omega (arith, lt, few)) in
+      let on : bit_set ws (place c.names l s (at + zeros)) ≡ true = row_bit (at + zeros) (omega arith) (omega (arith, lt)) ∙ ap (bit w) back ∙ trailing_set 64 w (omega (arith, lt, few)) in
       let high : at + zeros < c.names = omega (arith, lt) in
       grind (arith, nat_tests, l_in, s-in, on, high)
 

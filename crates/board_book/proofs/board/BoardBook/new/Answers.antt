@@ -33,4 +33,4 @@ invariant_of-result c =
 pub returns-clause-empty : goal.returns-clause-empty
 returns-clause-empty c =
     let at = (goal.at.returns-clause-empty c).After-new-marks in
-    new_means c.new-marks.result _ (vec_len c.args.words) c.args.counts (clear at) (counts at) c.new-marks.ensures.none
+    new_means c.new-marks.result _ (vec_len c.args.words) (vec_len c.args.words) c.args.counts (clear at) (counts at) c.new-marks.ensures.none

@@ -21,5 +21,5 @@ returns c =
     let row : (k : ℕ) → k < 64 → bit w k ≡ bit_set ws (i + k) = subst (λ us. (k : ℕ) → k < 64 → bit w k ≡ bit_set us (i + k)) c.deref.ensures.value c.gather.ensures in
     let start : i ≡ place cs.names of.label of.name at = grind (arith, c.place.ensures, c.tie.ensures, c.requires.forward) in
     let told : c.then_some.result ≡ then_some (ltb zeros (cs.names - at)) (at + zeros) = cc in
-    let lowest = row_lowest cs ws of.label of.name at i w b.marks.within.few_names (grind (arith, nat_tests, c.requires.within)) (grind (arith, nat_tests, c.requires.within)) start c.gather.type_inv row in
+    let lowest = row_lowest cs ws of.label of.name at i w b.marks.within.few_names (grind (arith, nat_tests, c.requires.within)) (grind (arith, nat_tests, c.requires.within)) start row in
     rw (told, c.requires.forward) lowest
