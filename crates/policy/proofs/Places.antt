@@ -172,3 +172,8 @@ nowhere_anchored (some p f) h = absurd (h 0 refl)
 
 pub anchored_is : AnchoredIsAstrayNowhere
 anchored_is f = (anchored_nowhere f, nowhere_anchored f)
+
+-- where P has no place, what tells of it is None
+pub told_none : (o : Option ℕ) (P : ℕ → Type 0) → Tells o P → Nowhere P → o ≡ None
+told_none None P t h = refl
+told_none (Some k) P t h = absurd (h k t.0)

@@ -1,5 +1,5 @@
 -- A tree by its first word and the trees under it.
-use Rattle.std.proofs.Common.{◌≡◌, ℕ, suc, ◌+◌, ◌<◌, List, [], ◌∷◌, ◌++◌, length, get_or, drop, sym, refl, ap, ◌∙◌, inl, inr, append_assoc, append-nil, arith, length-append, length-drop}
+use Rattle.std.proofs.Common.{◌≡◌, ℕ, suc, ◌+◌, ◌<◌, ◌≤◌, List, [], ◌∷◌, ◌++◌, length, get_or, drop, sym, refl, ap, ◌∙◌, inl, inr, append_assoc, append-nil, arith, length-append, length-drop}
 use Rattle.std.proofs.lemmas.List.{drop_more, drop-drop, drop_at}
 use Rattle.policy_words.specs.Due.{paths_of, formulas_of}
 use Rattle.policy_words.specs.Tree.Formula.{is, same, has, neg, both, either, at_letter, at_name, bind, some}
@@ -49,9 +49,10 @@ pub record Node (t : Tree) : Type 0 where
   pub writes : write t ≡ root t ∷ write_all (kids t)
   pub count : length (kids t) ≡ paths_of (root t) + formulas_of (root t)
   pub enters : (k : ℕ) → enter k t ≡ head k t ∷ enter_all (k + 1) (kids t)
+  pub few : length (kids t) ≤ 2
 
 pub node : (t : Tree) → Node t
-node t = record { writes = grind (arith, append-nil); count = grind arith; enters = λ k. grind (arith, append-nil) }
+node t = record { writes = grind (arith, append-nil); count = grind arith; enters = λ k. grind (arith, append-nil); few = grind arith }
 
 -- the table ws has the tree t at the place i, and then the words rest
 abbrev pub Has : List Word → ℕ → Tree → List Word → Type 0

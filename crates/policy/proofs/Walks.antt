@@ -1,5 +1,5 @@
 -- A formula in a table, by its first word and the formulas under it.
-use Rattle.std.proofs.Common.{◌≡◌, ℕ, ◌+◌, ◌<◌, Bool, true, List, [], ◌∷◌, length, get_or, Some, None, Option, sym, refl, ap, ◌∙◌, subst, inl, arith}
+use Rattle.std.proofs.Common.{◌≡◌, ℕ, ◌+◌, ◌<◌, Bool, true, false, List, [], ◌∷◌, length, get_or, Some, None, Option, sym, refl, ap, ◌∙◌, subst, inl, arith}
 use Rattle.std.proofs.Math.Bridge.{le_prop}
 use Rattle.std.proofs.lemmas.Option.{none-some, same_Some}
 use mathlib.Core.Logic.{∥∥₁_elim, ∥∥₁_map}
@@ -7,8 +7,10 @@ use Rattle.policy_words.specs.Due.{formulas_of}
 use Rattle.policy_words.specs.Tree.{Formula, root}
 use Rattle.policy_words.specs.Tree.Formula.{is, same, has, neg, both, either, at_letter, at_name, bind, some}
 use Rattle.policy_words.specs.declared.word.Letter.{Letter}
+use Rattle.policy_words.specs.declared.word.Letter.TheVariants as L
 use Rattle.policy_words.specs.declared.word.Word.{Word}
 use Rattle.policy_words.specs.declared.word.Word.TheVariants as W
+use Rattle.policy.specs.Letters.{has as holds}
 use Rattle.policy.specs.Linking.{head}
 use Rattle.policy.specs.Table.{plain, Stands, Reads}
 use Rattle.policy.specs.Free.{first, later, first_loose}
@@ -16,6 +18,23 @@ use Rattle.policy.specs.Nodes.{operands}
 use Rattle.policy.specs.Steps.{settled, set_by}
 use Rattle.policy.specs.declared.entry.Entry.{Entry}
 use Rattle.policy.specs.declared.node.Node.{Node}
+
+-- a place moved on twice
+pub later-later : (a b : ℕ) (o : Option ℕ) → later a (later b o) ≡ later (a + b) o
+later-later a b None = refl
+later-later a b (Some k) = ap Some (omega arith)
+
+-- the first of two places, moved on
+pub later_first : (a : ℕ) (o p : Option ℕ) → later a (first o p) ≡ first (later a o) (later a p)
+later_first a None p = refl
+later_first a (Some k) p = refl
+
+-- the set with no letter has none
+pub none_has : (v : Letter) → holds v (record { requester = false; resource = false; a = false; b = false }) ≡ false
+none_has L.Requester = refl
+none_has L.Resource = refl
+none_has L.A = refl
+none_has L.B = refl
 
 -- the entry of a formula's first word
 reads : (es : List Entry) (k : ℕ) (f : Formula) → Stands es k f → Reads es k (head k (inl f))
