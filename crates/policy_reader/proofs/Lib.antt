@@ -1,4 +1,5 @@
 pub mod Limits
+pub mod Operands
 pub mod Finding
 pub mod Telling
 pub mod OneWord
