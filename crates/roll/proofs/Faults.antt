@@ -166,11 +166,11 @@ list_only list ws (Some CountOrRepeat) h =
     faulty list ws None false (fine_first ws 0 h.fine) (false_from_ne_true _ (λ t. let p = (decides_together list ws).0 t in h.not_both p.0 p.1))
 
 -- what is told is the function's answer, and nothing else is
-pub list_as_told : (list : List) (ws : Seq (Seq ℕ)) (x : Option ListFault) → x ≡ list_fault list ws → ListTold list ws x
-list_as_told list ws x e = subst (ListTold list ws) (sym e) (list_told list ws)
+pub list_as_told : (list : List) (ws : Seq (Seq ℕ)) (x : Option ListFault) → x ≡ list_fault list ws → ListTold list ws x × ((y : Option ListFault) → ListTold list ws y → y ≡ x)
+list_as_told list ws x e = (subst (ListTold list ws) (sym e) (list_told list ws), λ y h. list_only list ws y h ∙ sym e)
 
 pub list_told_only : (list : List) (ws : Seq (Seq ℕ)) (x y : Option ListFault) → x ≡ list_fault list ws → ListTold list ws y → y ≡ x
-list_told_only list ws x y e h = list_only list ws y h ∙ sym e
+list_told_only list ws x y e h = (list_as_told list ws x e).1 y h
 
 -- what the check of a list finds where each word is fine by itself
 

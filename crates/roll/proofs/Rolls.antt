@@ -37,11 +37,11 @@ roll_only n l m None h = in_turn n l m None None None (list_only Names (words n)
 roll_only n l m (Some f) h = only_at n l m f.list f.fault h
 
 -- what is told is the function's answer, and nothing else is
-pub roll_as_told : (n l m : Seq ℕ) (x : Option RollFault) → x ≡ roll_fault n l m → RollTold n l m x
-roll_as_told n l m x e = subst (RollTold n l m) (sym e) (roll_told n l m)
+pub roll_as_told : (n l m : Seq ℕ) (x : Option RollFault) → x ≡ roll_fault n l m → RollTold n l m x × ((y : Option RollFault) → RollTold n l m y → y ≡ x)
+roll_as_told n l m x e = (subst (RollTold n l m) (sym e) (roll_told n l m), λ y h. roll_only n l m y h ∙ sym e)
 
 pub roll_told_only : (n l m : Seq ℕ) (x y : Option RollFault) → x ≡ roll_fault n l m → RollTold n l m y → y ≡ x
-roll_told_only n l m x y e h = roll_only n l m y h ∙ sym e
+roll_told_only n l m x y e h = (roll_as_told n l m x e).1 y h
 
 -- each text of a roll makes its list
 good_by : (list : List) (ws : Seq (Seq ℕ)) → list_fault list ws ≡ None → Good list ws

@@ -44,7 +44,7 @@ returns-clause-told c =
     let l = c.args.labels.now in
     let m = c.args.marks.now in
     let e : None ≡ roll_fault n l m = search rules in
-    roll_as_told n l m None e
+    (roll_as_told n l m None e).0
 
 pub returns-clause-only : goal.returns-clause-only
 returns-clause-only c =
