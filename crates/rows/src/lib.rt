@@ -11,7 +11,13 @@ pub struct Full;
 pub fn find<T: Eq>(row: &[T], thing: &T) -> Option<usize>
     ensures { Finds T.eq row.now thing.now result }
 {
-    row.iter().position(|x| x == thing)
+    // a `for`, since `position` takes half as much time again here
+    for (i, x) in row.iter().enumerate() {
+        if x == thing {
+            return Some(i);
+        }
+    }
+    None
 }
 
 // Puts `thing` after the first `used` things of `row`, unless it is among them or no place is left.
