@@ -30,7 +30,8 @@ fn neighbour_by(of: Neighbours, tie: &Tie) -> Option<u8>
         Direction::Forward => (tie.from, tie.to),
         Direction::Backward => (tie.to, tie.from),
     };
-    (tie.label == of.label && near == of.name).then_some(far)
+    // one test for both, since few ties pass it, while many may have the label
+    ((tie.label == of.label) & (near == of.name)).then_some(far)
 }
 
 // The lowest neighbour not below `at` that the ties make.
