@@ -23,5 +23,8 @@ pub fn number_of<'a>(roll: Roll<'_>, list: List, word: &'a [u8]) -> Result<u8, &
     ensures known { result_ok result ≡ operand roll.entry list word.now }
     ensures unknown { IfErr result (λ w. w.now ≡ word.now) }
 {
-    hash_number(word).or(roll.find(list, word)).ok_or(word)
+    match hash_number(word) {
+        Some(number) => Ok(number),
+        None => roll.find(list, word).ok_or(word),
+    }
 }
