@@ -45,17 +45,18 @@ pub enum Order<'a> {
 #[derive(Clone, Copy, Debug, PartialEq, Eq)]
 pub struct UnknownOrder;
 
-impl<'a> Order<'a> {
-    // The order that a line gives; a remark and an empty line give none, and so this is no `TryFrom`.
-    pub fn parse(line: &'a [u8]) -> Result<Option<Order<'a>>, UnknownOrder> {
-        if line.is_empty() || line.starts_with(b"--") {
-            return Ok(None);
-        }
-        of_text(line)
-            .or_else(|| of_words(line))
-            .ok_or(UnknownOrder)
-            .map(Some)
+// The order that a line gives.
+impl<'a> TryFrom<&'a [u8]> for Order<'a> {
+    type Error = UnknownOrder;
+
+    fn try_from(line: &'a [u8]) -> Result<Order<'a>, UnknownOrder> {
+        of_text(line).or_else(|| of_words(line)).ok_or(UnknownOrder)
     }
+}
+
+// Whether a line gives no order and no fault: a remark, or an empty line.
+pub fn is_remark(line: &[u8]) -> bool {
+    line.is_empty() || line.starts_with(b"--")
 }
 
 // An order whose one operand is a text.

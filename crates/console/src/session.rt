@@ -1,6 +1,6 @@
 // A session at the console: the texts of the next roll, and the open book with a roll of its own.
 use crate::answer::{Answer, Refusal};
-use crate::order::{Order, Question};
+use crate::order::{Order, Question, is_remark};
 use board_book::board::BoardBook;
 use book::refusal::EnterRefusal;
 use book::tie::Tie;
@@ -91,21 +91,19 @@ impl Session {
 
     // Adds the answer to a line to the output: one line, or nothing for a remark.
     pub fn answer(&mut self, line: &[u8], out: &mut impl Write) -> io::Result<()> {
+        if is_remark(line) {
+            return Ok(());
+        }
         match self.obey(line) {
-            Ok(None) => return Ok(()),
-            Ok(Some(answer)) => answer.write_to(out)?,
+            Ok(answer) => answer.write_to(out)?,
             Err(refusal) => refusal.write_to(out)?,
         }
         out.write_all(b"\n")
     }
 
     // Does what a line orders.
-    fn obey<'a>(&'a mut self, line: &'a [u8]) -> Result<Option<Answer<'a>>, Refusal<'a>> {
-        let order = Order::parse(line).map_err(|_| Refusal::UnknownCommand(line))?;
-        let Some(order) = order else {
-            return Ok(None);
-        };
-        match order {
+    fn obey<'a>(&'a mut self, line: &'a [u8]) -> Result<Answer<'a>, Refusal<'a>> {
+        match Order::try_from(line).map_err(|_| Refusal::UnknownCommand(line))? {
             Order::Text(list, text) => self.next.put(list, text.to_vec(self.heap)?),
             Order::OpenList(places) => {
                 let counts = self.next.roll()?.counts();
@@ -120,9 +118,9 @@ impl Session {
             Order::Policy(text) => {
                 read(&self.opened()?.texts.roll()?, text)?;
             }
-            Order::Ask(question) => return Ok(Some(self.ask(question)?)),
+            Order::Ask(question) => return self.ask(question),
         }
-        Ok(Some(Answer::Word(b"ok")))
+        Ok(Answer::Word(b"ok"))
     }
 
     // Opens an empty book, under the roll of the next texts.
