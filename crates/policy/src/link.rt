@@ -7,6 +7,7 @@ ghost use Rattle.policy.specs.Linking.{Tree, write, head, IsEntryAt};
 
 use crate::entry::Entry;
 use policy_words::word::Word;
+use std::array;
 use std::marker::Model;
 
 // At most 64 words, of which a table is made.
@@ -40,7 +41,8 @@ impl Words<'_> {
         next
     }
 
-    // The entry of the word at `at`; past the words that of `=`, of which nothing is asked.
+    // The entry of the word at `at`; past the words that of `=`, of which nothing is asked, and which fills
+    // the table.
     fn entry_at(&self, at: usize) -> Entry
         ensures { IsEntryAt self.now at result }
     {
@@ -58,19 +60,11 @@ impl Words<'_> {
         Entry { word, second }
     }
 
-    // The table of the words, of fixed size as a policy is. Only the words' entries are made, where `array::from_fn`
-    // would make 64 for every policy, which takes twice the time for a short one.
+    // The table of the words, of fixed size as a policy is.
     pub fn table(&self) -> [Entry; 64]
         ensures long { length result ≡ 64 }
         ensures entries { (k : ℕ) → k < 64 → IsEntryAt self.now k (slice_index_or result k (plain (NameItem 0))) }
     {
-        let mut table = [Entry {
-            word: Word::Stay,
-            second: None,
-        }; 64];
-        for k in 0..self.list.len() {
-            table[k] = self.entry_at(k);
-        }
-        table
+        array::from_fn(|k| self.entry_at(k))
     }
 }

@@ -1,17 +1,24 @@
-use Rattle.std.proofs.Common.{◌<◌, ◌≢◌, length, ap, ◌∙◌, arith, length-set, get_or-set_other, get_or-set_same, below_more}
-use Rattle.policy.proofs.Subtrees.{inside}
+use Rattle.std.proofs.Common.{◌≡◌, ℕ, zero, suc, ◌+◌, ◌<◌, ◌≤◌, List, get_or, sym, subst, inl, inr, rules, arith}
+use Rattle.std.proofs.lemmas.Bool.{cases_eq}
+use Rattle.std.specs.Array.{IsFromFnResultFrom}
+use Rattle.std.specs.Fn.{Called}
+use denote.Param.Members.{Mut}
+use Rattle.policy_words.specs.declared.word.Word.TheVariants as W
+use Rattle.policy.specs.Table.{plain}
+use Rattle.policy.specs.Linking.{IsEntryAt}
 use Rattle.policy.proofs.link.Words.table.Goals as goal
 
-pub loop-k-preserved : goal.loop-k-preserved
-loop-k-preserved c =
-    let i = c.loop-k.invariant in (
-      length-set c.loop-k.table c.loop-k.k _ ∙ i.0,
-      below_more _ _
-          (λ j h. let ne : j ≢ c.loop-k.k = omega arith in rw get_or-set_other (i.1 j h))
-          (let lt : c.loop-k.k < length c.loop-k.table = omega (arith, i.0, c.loop-k-test.true, c.self.invariant) in rw get_or-set_same c.entry_at.ensures),
-    )
+-- where a closure stays as it is and what it gives has P, each item of the array has P
+module _ {F B : Type 0} (g : Mut F (ℕ × Unit {0}) B) (P : ℕ → B → Type 0) (f : F) (ys : List B) (e : B) (gives : (i : ℕ) (y : B) (q : F) → Called g f (i, tt) y q → (q ≡ f) × P i y) where
+  each : (n i : ℕ) → IsFromFnResultFrom g f ys i n → (k : ℕ) → i ≤ k → k < i + n → P k (get_or ys k e)
+  each zero i made k lo hi = absurd (omega arith)
+  each (suc n) i made k lo hi =
+      let q = gives i made.1 made.0 made.3 in
+      elim (cases_eq k i) [
+        | inl here ↦ subst (λ j. P j (get_or ys j e)) (sym here) (subst (P i) (sym (made.2.1 e)) q.1)
+        | inr ne ↦ each n (i + 1) (subst (λ p. IsFromFnResultFrom g p ys (i + 1) n) q.0 made.4) k (omega arith) (omega arith)
+      ]
 
--- a tree has words, so that none begins past them
 pub returns-clause-entries : goal.returns-clause-entries
 returns-clause-entries c = λ k lt.
-    record { heads = λ t rest h. (c.loop-k.invariant.1 k (omega (arith, inside c.args.self.now k t rest h, c.loop-k-test.false, ap length c.self.view_is))).heads t rest h }
+    each _ (IsEntryAt c.args.self.now) _ c.from_fn.result (plain (W.Name 0)) (λ i y q call. search rules) 64 0 c.from_fn.ensures.items.each k (omega arith) (omega arith)
