@@ -1,6 +1,6 @@
 // Look-up in the words of a text, of which the first 64 have numbers. The text is handed to each: it is what the
 // functions are about, as a `self` would be, and carries no fact.
-ghost use Rattle.std.specs.Prelude.{◌≡◌, ◌<◌, min, length, Decides, IfSome};
+ghost use Rattle.std.specs.Prelude.{◌≡◌, ◌≢◌, ◌<◌, min, length, take, Decides, IfSome, All};
 ghost use Rattle.std.specs.Option.{option_map};
 ghost use Rattle.std.specs.List.{slice_get};
 ghost use Rattle.text.specs.Text.{words};
@@ -26,11 +26,13 @@ fn place_in(text: &[u8], word: &[u8]) -> Option<usize>
         .position(|next| next.bytes == word)
 }
 
-// Whether the word has this place, and no place before it.
-fn is_first(text: &[u8], word: &[u8], place: usize) -> bool
-    ensures { Decides result (place_of word.now (numbered text.now) ≡ Some place) }
+// Whether none of the words before a place is this one.
+fn is_new(text: &[u8], word: &[u8], before: usize) -> bool
+    ensures { Decides result (All (λ w. w ≢ word.now) (take before (words text.now))) }
 {
-    place_in(text, word) == Some(place)
+    Pieces::words(text)
+        .take(before)
+        .all(|next| next.bytes != word)
 }
 
 // The number of a word, which is its first place.
@@ -50,12 +52,14 @@ pub fn word_in<'a>(text: &'a [u8], number: u8) -> Option<&'a [u8]>
         .map(|word| word.bytes)
 }
 
-// Whether no word comes twice among those that have a number.
+// Whether no word comes twice among those that have a number. It stays a function of its own in the program: within
+// `check` it runs short of registers, and reading a roll of words of four bytes or more takes up to a quarter longer.
+#[inline(never)]
 pub fn is_distinct(text: &[u8]) -> bool
     ensures { Decides result (Distinct (numbered text.now)) }
 {
     Pieces::words(text)
         .take(64)
         .enumerate()
-        .all(|(place, word)| is_first(text, word.bytes, place))
+        .all(|(before, word)| is_new(text, word.bytes, before))
 }
